@@ -1,0 +1,6 @@
+pub mod Buffer
+pub mod Causes
+pub mod Decimal
+pub mod Names
+pub mod Pairs
+pub mod Texts
