@@ -1,2 +1,4 @@
 pub mod DigitsLemmas
 mod TextLemmas
+pub mod LinesLemmas
+pub mod RunsLemmas

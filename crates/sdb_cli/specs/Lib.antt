@@ -1,3 +1,9 @@
+pub mod Body
 pub mod Digits
 pub mod Line
+pub mod Lines
+pub mod Plain
 pub mod Requests
+pub mod Standing
+pub mod Runs
+pub mod Statuses

@@ -1,6 +1,17 @@
 //! The commands of the program, over a source of input and a sink of output.
 #![tactic(auto)]
 
+mod answer;
+mod bare;
+mod body;
+mod command;
 mod digits;
 mod line;
 mod refusal;
+
+mod session;
+mod status;
+mod texts;
+
+pub use command::run;
+pub use status::Status;

@@ -1,0 +1,72 @@
+-- The bodies of answers.
+use Rattle.std.specs.Prelude.{ℕ, ◌/◌, ◌^◌, List, ◌∷◌, ◌++◌, codes, decimal}
+use Rattle.sdb_cli.specs.Digits.{padded}
+use Rattle.sdb_cli.specs.declared.refusal.Refusal.{Refusal}
+use Rattle.sdb_cli.specs.declared.refusal.Refusal.TheVariants.{NotYetImplemented, InvalidParameterValue, MissingParameter}
+
+unfoldable pub head : List ℕ
+head = codes "<?xml version=\"1.0\"?>\n<"
+
+unfoldable pub opened : List ℕ
+opened = codes "Response xmlns=\"http://sdb.amazonaws.com/doc/2009-04-15/\">"
+
+unfoldable pub metadata : List ℕ
+metadata = codes "<ResponseMetadata><RequestId>"
+
+unfoldable pub connection : List ℕ
+connection = codes "00000000-0000-0000-0000-"
+
+unfoldable pub usage : List ℕ
+usage = codes "</RequestId><BoxUsage>"
+
+unfoldable pub closing : List ℕ
+closing = codes "</BoxUsage></ResponseMetadata></"
+
+unfoldable pub closed : List ℕ
+closed = codes "Response>"
+
+unfoldable pub error_head : List ℕ
+error_head = codes "<?xml version=\"1.0\"?>\n<Response><Errors><Error><Code>"
+
+unfoldable pub error_message : List ℕ
+error_message = codes "</Code><Message>"
+
+unfoldable pub error_usage : List ℕ
+error_usage = codes "</Message><BoxUsage>0.0000001000</BoxUsage></Error></Errors><RequestID>"
+
+unfoldable pub error_tail : List ℕ
+error_tail = codes "</RequestID></Response>"
+
+-- a request's identifier: connection 0, and its number in 12 hexadecimal digits
+abbrev pub request_id : ℕ → List ℕ
+request_id number = connection ++ padded 16 12 number
+
+-- a number of units of 10^-10 of an hour, as hours
+abbrev pub box_usage : ℕ → List ℕ
+box_usage units = decimal (units / 10 ^ 10) ++ 46 ∷ padded 10 10 units
+
+-- what stands before the result of an action
+abbrev pub opening : List ℕ → List ℕ
+opening action = head ++ action ++ opened
+
+-- what stands after it: the number of the request, and the units that it used
+abbrev pub ending : List ℕ → ℕ → ℕ → List ℕ
+ending action number units = metadata ++ request_id number ++ usage ++ box_usage units ++ closing ++ action ++ closed
+
+-- the body of a request that was done: the action, its result, the number of the request and the units that it used
+abbrev pub success : (action result : List ℕ) (number units : ℕ) → List ℕ
+success action result number units = opening action ++ (result ++ ending action number units)
+
+unfoldable pub code_of : Refusal → List ℕ
+code_of NotYetImplemented = codes "NotYetImplemented"
+code_of InvalidParameterValue = codes "InvalidParameterValue"
+code_of MissingParameter = codes "MissingParameter"
+
+unfoldable pub message_of : Refusal → List ℕ
+message_of NotYetImplemented = codes "The request is not built yet."
+message_of InvalidParameterValue = codes "The value of a parameter is invalid."
+message_of MissingParameter = codes "A required parameter is missing."
+
+-- the body of a refused request
+abbrev pub refused : Refusal → ℕ → List ℕ
+refused refusal number = error_head ++ code_of refusal ++ error_message ++ message_of refusal ++ error_usage ++ request_id number ++ error_tail

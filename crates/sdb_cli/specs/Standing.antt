@@ -1,0 +1,6 @@
+-- Where a session of the code stands.
+use Rattle.sdb_cli.specs.Plain.{Standing}
+use Rattle.sdb_cli.specs.declared.session.Session.{Session}
+
+abbrev pub standing : Session → Standing
+standing s = record { number = s.number; domains = s.accounts; held = s.held.items }
