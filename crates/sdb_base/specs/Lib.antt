@@ -4,3 +4,4 @@ pub mod Decimal
 pub mod Names
 pub mod Pairs
 pub mod Texts
+pub mod formers

@@ -9,6 +9,7 @@ mod list;
 mod memory;
 mod out;
 mod params;
+mod steps;
 mod text;
 mod verb;
 
@@ -20,5 +21,9 @@ pub use list::{List, Numbers, Texts, Words};
 pub use memory::OutOfMemory;
 pub use out::Out;
 pub use params::Params;
+pub use steps::Steps;
 pub use text::Text;
 pub use verb::Verb;
+
+#[cfg(test)]
+mod tests;

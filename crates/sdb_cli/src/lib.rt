@@ -15,3 +15,6 @@ mod texts;
 
 pub use command::run;
 pub use status::Status;
+
+#[cfg(test)]
+mod tests;
