@@ -1,0 +1,4 @@
+pub mod Answers
+pub mod Decoding
+pub mod Firsts
+pub mod Repeats

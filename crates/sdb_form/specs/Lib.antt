@@ -1,0 +1,3 @@
+pub mod Answer
+pub mod Form
+pub use Rattle.form_urlencoded.specs.Form as Pieces
