@@ -1,0 +1,5 @@
+pub mod EntryLemmas
+pub mod KeyLemmas
+pub mod PairLemmas
+pub mod SettleLemmas
+pub mod StateLemmas

@@ -1,0 +1,41 @@
+-- What holds of every list of changes.
+use Rattle.std.specs.Prelude.{◌≡◌, ◌≢◌, ℕ, true, List, ◌++◌}
+use Rattle.sdb_pairs.specs.declared.op.Op.{Op}
+use Rattle.sdb_pairs.specs.declared.change.Change.{Change}
+use Rattle.sdb_pairs.specs.declared.change.Change.TheVariants.{Edit}
+use Rattle.sdb_pairs.specs.Accounts.{DomainEntries, AreAccounts, has_domain, items_of, pairs_of}
+use Rattle.sdb_pairs.specs.Changes.{after, state}
+use Rattle.sdb_pairs.specs.Pairs.{merged}
+
+-- accounts stay accounts, whatever changes are applied
+abbrev pub ChangesKeepAccountsRising : Type 0
+ChangesKeepAccountsRising = (accounts : DomainEntries) (changes : List Change) → AreAccounts accounts → AreAccounts (state accounts changes)
+
+-- joined lists of changes apply one after the other
+abbrev pub StateOfJoined : Type 0
+StateOfJoined = (accounts : DomainEntries) (first second : List Change) → state accounts (first ++ second) ≡ state (state accounts first) second
+
+-- what one edit leaves
+pub record EditLeaves (accounts : DomainEntries) (account : ℕ) (domain item : List ℕ) (ops : List Op) (new : DomainEntries) : Type 0 where
+  pub made : has_domain new account domain ≡ true
+  pub edited : pairs_of new account domain item ≡ merged (pairs_of accounts account domain item) ops
+  pub other_items : (other : List ℕ) → other ≢ item → pairs_of new account domain other ≡ pairs_of accounts account domain other
+  pub other_domains : (other : ℕ × List ℕ) → other ≢ (account, domain) → items_of new other.0 other.1 ≡ items_of accounts other.0 other.1
+
+abbrev pub EditChangesOneItem : Type 0
+EditChangesOneItem = (accounts : DomainEntries) (account : ℕ) (domain item : List ℕ) (ops : List Op) → AreAccounts accounts → EditLeaves accounts account domain item ops (after accounts (Edit account domain item ops))
+
+-- one place of the accounts: whether a domain is there, or the pairs of an item
+pub data Place : Type 0 where
+  domain_at : (account : ℕ) (domain : List ℕ) → Place
+  item_at : (account : ℕ) (domain item : List ℕ) → Place
+
+-- the two accounts agree at the place
+abbrev pub AgreesAt : Place → DomainEntries → DomainEntries → Type 0
+AgreesAt (domain_at account domain) one other = has_domain one account domain ≡ has_domain other account domain
+AgreesAt (item_at account domain item) one other = pairs_of one account domain item ≡ pairs_of other account domain item
+
+-- where `seen` agrees at a place with the state after `done`, it agrees there with it after `done` once more and any `more`
+abbrev pub PlacesSettle : Type 0
+PlacesSettle = (seen accounts : DomainEntries) (done more : List Change) (place : Place) → AreAccounts seen → AreAccounts accounts
+    → AgreesAt place seen (state accounts done) → AgreesAt place (state seen (done ++ more)) (state accounts (done ++ more))

@@ -1,0 +1,6 @@
+pub mod Accounts
+pub mod Changes
+pub mod Entries
+pub mod Laws
+pub mod Lawful
+pub mod Pairs

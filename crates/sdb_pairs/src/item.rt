@@ -1,0 +1,123 @@
+ghost use Rattle.std.specs.Prelude.{◌≡◌, ◌≤◌, not, [], length, slice_range, filter, IfOk, OnOk, OnErr};
+ghost use Rattle.std.specs.List.{remove_range};
+ghost use Rattle.std.specs.List.Sorted.{IsStrictlySortedBy};
+ghost use Rattle.sdb_pairs.specs.Pairs.{pair_cmp, is_named, part_named};
+
+use crate::op::Op;
+use crate::pair::Pair;
+use sdb_base::{OutOfMemory, Text};
+use std::alloc::Global;
+use std::marker::Model;
+
+/// The pairs of one item, strictly rising by name and then by value.
+#[derive(Debug, Drop)]
+pub struct Item {
+    pairs: Vec<Pair>,
+}
+
+impl Model for Item {
+    ghost use Rattle.std.specs.Prelude.{List};
+    ghost use Rattle.std.specs.List.Sorted.{IsStrictlySortedBy};
+    ghost use Rattle.sdb_pairs.specs.declared.pair.Pair.{Pair};
+    ghost use Rattle.sdb_pairs.specs.Pairs.{pair_cmp};
+
+    ghost Value = { List Pair };
+
+    ghost view = { λ it. it.pairs.items };
+
+    ghost invariant = { λ it. IsStrictlySortedBy pair_cmp it.pairs.items };
+}
+
+impl Item {
+    ghost use Rattle.sdb_pairs.specs.Pairs.{pair_cmp, pair_eq, is_named, part_named, with_pair, after_op};
+
+    /// An item without pairs, which takes no memory.
+    pub fn new(alloc: Global) -> Self
+        ensures { result ≡ [] }
+    {
+        Item {
+            pairs: Vec::new(alloc),
+        }
+    }
+
+    /// Every pair, strictly rising.
+    pub fn pairs(&self) -> &[Pair]
+        ensures same { result.now ≡ self.now }
+        ensures rising { IsStrictlySortedBy pair_cmp self.now }
+    {
+        self.pairs.as_slice()
+    }
+
+    /// The pairs of that name, strictly rising by value. It takes no memory.
+    pub fn values(&self, name: &Text) -> &[Pair]
+        ensures { result.now ≡ part_named name.now self.now }
+    {
+        let (start, end) = span_of(self.pairs.as_slice(), name);
+        &self.pairs[start..end]
+    }
+
+    /// A second item of the same pairs.
+    pub(crate) fn copy(&self, alloc: Global) -> Result<Item, OutOfMemory>
+        ensures { IfOk result (λ copied. copied ≡ self.now) }
+    {
+        let mut pairs = Vec::with_capacity(alloc, self.pairs.len())?;
+        for pair in &self.pairs {
+            pairs.push(pair.copy(alloc)?)?;
+        }
+        Ok(Item { pairs })
+    }
+
+    /// Applies one operation.
+    pub(crate) fn take(&mut self, alloc: Global, op: &Op) -> Result<(), OutOfMemory>
+        ensures ok { OnOk result (self.new ≡ after_op self.old op.now) }
+        ensures err { OnErr result (self.new ≡ self.old) }
+    {
+        match op {
+            Op::AddPair(pair) => return self.add_pair(alloc, pair),
+            Op::DropPair(pair) => self.drop_pair(pair),
+            Op::DropName(name) => self.drop_name(name),
+            Op::DropAll => self.pairs.clear(),
+        }
+        Ok(())
+    }
+
+    fn add_pair(&mut self, alloc: Global, pair: &Pair) -> Result<(), OutOfMemory>
+        ensures ok { OnOk result (self.new ≡ with_pair self.old pair.now) }
+        ensures err { OnErr result (self.new ≡ self.old) }
+    {
+        if let Err(place) = self.pairs.binary_search(pair) {
+            let added = pair.copy(alloc)?;
+            self.pairs.insert(place, added)?;
+        }
+        Ok(())
+    }
+
+    fn drop_pair(&mut self, pair: &Pair)
+        ensures { self.new ≡ filter (λ q. not (pair_eq q pair.now)) self.old }
+    {
+        if let Ok(place) = self.pairs.binary_search(pair) {
+            self.pairs.remove(place);
+        }
+    }
+
+    fn drop_name(&mut self, name: &Text)
+        ensures { self.new ≡ filter (λ q. not (is_named name.now q)) self.old }
+    {
+        let (start, end) = span_of(self.pairs.as_slice(), name);
+        self.pairs.drain(start..end);
+    }
+}
+
+// Where the part with that name begins, and where it ends.
+fn span_of(pairs: &[Pair], name: &Text) -> (usize, usize)
+    requires { IsStrictlySortedBy pair_cmp pairs.now }
+    ensures order { result.0 ≤ result.1 }
+    ensures within { result.1 ≤ length pairs.now }
+    ensures part { slice_range pairs.now result.0 result.1 ≡ part_named name.now pairs.now }
+    ensures others { remove_range pairs.now result.0 result.1 ≡ filter (λ q. not (is_named name.now q)) pairs.now }
+{
+    let start = pairs.partition_point(|pair| pair.name < *name);
+    let (_, rest) = pairs.split_at(start);
+    let count = rest.partition_point(|pair| pair.name == *name);
+    (start, start + count)
+}

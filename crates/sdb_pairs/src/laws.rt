@@ -1,0 +1,21 @@
+ghost use Rattle.sdb_pairs.specs.Laws.{ChangesKeepAccountsRising, EditChangesOneItem, PlacesSettle, StateOfJoined};
+
+/// Accounts stay in rising order, item names and pairs too, whatever changes are applied.
+pub fn changes_keep_accounts_rising()
+    ensures { ChangesKeepAccountsRising }
+{}
+
+/// Applying joined lists of changes is applying one after the other.
+pub fn state_of_joined()
+    ensures { StateOfJoined }
+{}
+
+/// An edit makes its domain, leaves its item with the pairs after the operations, and leaves every other place as it was.
+pub fn edit_changes_one_item()
+    ensures { EditChangesOneItem }
+{}
+
+/// Accounts that agree with a state at one place agree with it there after the same changes once more, and after any further changes.
+pub fn places_settle()
+    ensures { PlacesSettle }
+{}

@@ -1,0 +1,23 @@
+//! Items as sets of pairs, the operations on them, and the changes that make up all durable state.
+#![tactic(auto)]
+
+mod change;
+mod edits;
+mod item;
+mod laws;
+mod listing;
+mod op;
+mod pair;
+
+pub use change::{Change, Changes};
+pub use edits::merge;
+pub use item::Item;
+pub use laws::{
+    changes_keep_accounts_rising, edit_changes_one_item, places_settle, state_of_joined,
+};
+pub use listing::{ItemOut, ItemsOut, Pairs};
+pub use op::{Op, Ops};
+pub use pair::Pair;
+
+#[cfg(test)]
+mod tests;
