@@ -4,3 +4,6 @@
 mod accounts;
 
 pub use accounts::Accounts;
+
+#[cfg(test)]
+mod tests;
