@@ -36,7 +36,7 @@ line_end_from_position bytes =
     let at = position_or_len lf bytes in
     let first = first_lf bytes in
     elim (nat_lt at (length bytes)) as (λ t. nat_lt at (length bytes) ≡ t → MatchOption (cond t (Some at) None) (IsOneLine bytes) (λ end.
-        (end < length bytes) × IsOneLine (take end bytes) × (drop end bytes ≡ 10 ∷ drop (end + 1) bytes)))
+    (end < length bytes) × IsOneLine (take end bytes) × (drop end bytes ≡ 10 ∷ drop (end + 1) bytes)))
     [ true ↦ λ e. let h = leb-true _ _ e in (h, first.0, first.1 h) | false ↦ λ e. let h = leb-false _ _ e in all_one_line bytes (omega arith) ] refl
 
 pub IsOneLine-append : (front back : List ℕ) → IsOneLine front → IsOneLine back → IsOneLine (front ++ back)

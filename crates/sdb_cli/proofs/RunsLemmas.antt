@@ -46,7 +46,7 @@ going_whole : (start now : Standing) (left rest written all : Option (List ℕ))
 going_whole start now left rest written all n going =
     let none : told whole_lines now [] ≡ [] = told-none now going.held in
     let all_told : told whole_lines start going.given ≡ going.text =
-        ap (told whole_lines start) (sym (append-nil going.given)) ∙ going.agrees whole_lines whole_lines-cuts [] ∙ ap (λ l. going.text ++ l) none ∙ append-nil going.text in
+    ap (told whole_lines start) (sym (append-nil going.given)) ∙ going.agrees whole_lines whole_lines-cuts [] ∙ ap (λ l. going.text ++ l) none ∙ append-nil going.text in
     subst (Appends written all) (sym all_told) going.wrote
 
 pub Ends-limit : (limit : ℕ) (start now : Standing) (left rest written all : Option (List ℕ)) (n : ℕ) → Going start now left rest written all n → n ≡ limit
@@ -56,11 +56,12 @@ Ends-limit limit start now left rest written all n going is = (going.given, goin
 stops_front : (limit most : ℕ) (start mid : Standing) (left between rest written so_far all : Option (List ℕ)) (n : ℕ)
     → Going start mid left between written so_far n → n + most ≤ limit → StopsFront most mid between rest so_far all → AnswersFront limit start left rest written all
 stops_front limit most start mid left between rest written so_far all n going fits stops =
-    let told_so_far : told whole_lines start (going.given ++ stops.0) ≡ going.text ++ told whole_lines mid stops.0 = going.agrees whole_lines whole_lines-cuts stops.0 in
-    (going.given ++ stops.0,
-     Consumes-trans left between rest going.given stops.0 going.read stops.1,
-     omega (arith, length-append going.given stops.0, going.counted, stops.2),
-     inl (subst (AppendsFront written all) (sym told_so_far) (Front-after written so_far all going.text (told whole_lines mid stops.0) going.wrote stops.3)))
+    let told_so_far : told whole_lines start (going.given ++ stops.0) ≡ going.text ++ told whole_lines mid stops.0 = going.agrees whole_lines whole_lines-cuts stops.0 in (
+      going.given ++ stops.0,
+      Consumes-trans left between rest going.given stops.0 going.read stops.1,
+      omega (arith, length-append going.given stops.0, going.counted, stops.2),
+      inl (subst (AppendsFront written all) (sym told_so_far) (Front-after written so_far all going.text (told whole_lines mid stops.0) going.wrote stops.3)),
+    )
 
 -- a turn that failed ends the run
 pub Ends-stopped : (status : Status) (limit most : ℕ) (start mid : Standing) (left between rest written so_far all : Option (List ℕ)) (n : ℕ)
@@ -68,11 +69,12 @@ pub Ends-stopped : (status : Status) (limit most : ℕ) (start mid : Standing) (
 Ends-stopped Done limit most start mid left between rest written so_far all n going inside fits stops = absurd stops
 Ends-stopped Usage limit most start mid left between rest written so_far all n going inside fits stops = absurd stops
 Ends-stopped InputTooLong limit most start mid left between rest written so_far all n going inside fits stops = absurd stops
-Ends-stopped ReadFault limit most start mid left between rest written so_far all n going inside fits stops =
-    (going.given,
-     Consumes-kept left between rest going.given going.read stops.0,
-     omega (arith, going.counted),
-     Appends-kept written so_far all (told whole_lines start going.given) (going_whole start mid left between written so_far n going) stops.1)
+Ends-stopped ReadFault limit most start mid left between rest written so_far all n going inside fits stops = (
+  going.given,
+  Consumes-kept left between rest going.given going.read stops.0,
+  omega (arith, going.counted),
+  Appends-kept written so_far all (told whole_lines start going.given) (going_whole start mid left between written so_far n going) stops.1,
+)
 Ends-stopped OutOfMemory limit most start mid left between rest written so_far all n going inside fits stops =
     stops_front limit most start mid left between rest written so_far all n going fits stops
 Ends-stopped WriteFault limit most start mid left between rest written so_far all n going inside fits stops =
@@ -82,18 +84,25 @@ finish_front : (limit : ℕ) (start mid : Standing) (left rest written so_far al
     → Going start mid left rest written so_far n → n < limit → IsAtEnd rest → AppendsFront so_far all (told lines_of mid []) → AnswersFront limit start left rest written all
 finish_front limit start mid left rest written so_far all n going inside ended front =
     let told_all : told lines_of start going.given ≡ going.text ++ told lines_of mid [] =
-        ap (told lines_of start) (sym (append-nil going.given)) ∙ going.agrees lines_of lines_of-cuts [] in
-    (going.given, going.read, omega (arith, going.counted),
-     inr (ended, subst (AppendsFront written all) (sym told_all) (Front-after written so_far all going.text (told lines_of mid []) going.wrote front)))
+    ap (told lines_of start) (sym (append-nil going.given)) ∙ going.agrees lines_of lines_of-cuts [] in (
+      going.given,
+      going.read,
+      omega (arith, going.counted),
+      inr (ended, subst (AppendsFront written all) (sym told_all) (Front-after written so_far all going.text (told lines_of mid []) going.wrote front)),
+    )
 
 -- the input is at its end, and the last line is answered
 pub Ends-finished : (status : Status) (limit : ℕ) (start mid : Standing) (left rest written so_far all : Option (List ℕ)) (n : ℕ)
     → Going start mid left rest written so_far n → n < limit → IsAtEnd rest → Finishes status mid so_far all → Ends status limit start left rest written all
 Ends-finished Done limit start mid left rest written so_far all n going inside ended finishes =
     let told_all : told lines_of start going.given ≡ going.text ++ told lines_of mid [] =
-        ap (told lines_of start) (sym (append-nil going.given)) ∙ going.agrees lines_of lines_of-cuts [] in
-    (going.given, going.read, ended, omega (arith, going.counted),
-     subst (Appends written all) (sym told_all) (Appends-trans written so_far all going.text (told lines_of mid []) going.wrote finishes))
+    ap (told lines_of start) (sym (append-nil going.given)) ∙ going.agrees lines_of lines_of-cuts [] in (
+      going.given,
+      going.read,
+      ended,
+      omega (arith, going.counted),
+      subst (Appends written all) (sym told_all) (Appends-trans written so_far all going.text (told lines_of mid []) going.wrote finishes),
+    )
 Ends-finished Usage limit start mid left rest written so_far all n going inside ended finishes = absurd finishes
 Ends-finished ReadFault limit start mid left rest written so_far all n going inside ended finishes = absurd finishes
 Ends-finished InputTooLong limit start mid left rest written so_far all n going inside ended finishes = absurd finishes

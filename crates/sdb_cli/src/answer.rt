@@ -14,7 +14,13 @@ const ACCOUNT: AccountId = AccountId(1);
 
 /// Executes the request of a line, whose number is given, and appends its answer and an LF.
 #[tactic(auto, using(std::proofs::Common::append_assoc), unfolding(crate::specs::Plain::answer, crate::specs::Plain::after))]
-pub(crate) fn answer(alloc: Global, accounts: &mut Accounts, number: u64, line: &[u8], out: &mut Bytes) -> Result<(), OutOfMemory>
+pub(crate) fn answer(
+    alloc: Global,
+    accounts: &mut Accounts,
+    number: u64,
+    line: &[u8],
+    out: &mut Bytes,
+) -> Result<(), OutOfMemory>
     ensures accounts { OnOk result (accounts.new ≡ after accounts.old line.now) }
     ensures bytes { OnOk result (out.new.bytes ≡ out.old.bytes ++ answer_to number accounts.old line.now) }
 {
@@ -27,7 +33,13 @@ pub(crate) fn answer(alloc: Global, accounts: &mut Accounts, number: u64, line: 
 }
 
 #[tactic(auto, unfolding(crate::specs::Line::create_domain_action))]
-fn execute(alloc: Global, accounts: &mut Accounts, number: u64, request: &Request<'_>, out: &mut Bytes) -> Result<(), OutOfMemory>
+fn execute(
+    alloc: Global,
+    accounts: &mut Accounts,
+    number: u64,
+    request: &Request<'_>,
+    out: &mut Bytes,
+) -> Result<(), OutOfMemory>
     ensures accounts { OnOk result (accounts.new ≡ after_asked accounts.old (Ok (asked_of request.now))) }
     ensures bytes { OnOk result (out.new.bytes ≡ out.old.bytes ++ reply_to number accounts.old (Ok (asked_of request.now))) }
 {

@@ -18,7 +18,12 @@ const PIECE: usize = 65_536;
 
 /// Answers the lines of the input for an account without domains, until it ends or has given `limit`
 /// bytes. Before each further read the answers so far are written.
-pub(crate) fn bare<T: Source, K: Sink>(alloc: Global, limit: u64, input: &mut T, output: &mut K) -> Status
+pub(crate) fn bare<T: Source, K: Sink>(
+    alloc: Global,
+    limit: u64,
+    input: &mut T,
+    output: &mut K,
+) -> Status
     requires { limit < 2 ^ 63 }
     ensures ends { Ends result limit beginning (T.left input.old) (T.left input.new) (K.written output.old) (K.written output.new) }
     ensures read { result ≡ Status.ReadFault → Rose (T.faults input.old) (T.faults input.new) }

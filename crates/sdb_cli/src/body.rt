@@ -24,12 +24,7 @@ fn append_opening(out: &mut Bytes, action: &str) -> Result<(), OutOfMemory>
 
 // Appends what stands after the result: the number of the request and the units that it used.
 #[tactic(auto, using(std::proofs::Common::append_assoc))]
-fn append_ending(
-    out: &mut Bytes,
-    action: &str,
-    number: u64,
-    units: u64,
-) -> Result<(), OutOfMemory>
+fn append_ending(out: &mut Bytes, action: &str, number: u64, units: u64) -> Result<(), OutOfMemory>
     ensures { OnOk result (out.new.bytes ≡ out.old.bytes ++ ending action.now number units) }
 {
     out.append(texts::metadata())?;
@@ -59,7 +54,11 @@ pub(crate) fn append_success(
 
 /// Appends the body of a refused request.
 #[tactic(auto, using(std::proofs::Common::append_assoc))]
-pub(crate) fn append_refused(out: &mut Bytes, refusal: Refusal, number: u64) -> Result<(), OutOfMemory>
+pub(crate) fn append_refused(
+    out: &mut Bytes,
+    refusal: Refusal,
+    number: u64,
+) -> Result<(), OutOfMemory>
     ensures { OnOk result (out.new.bytes ≡ out.old.bytes ++ refused refusal number) }
 {
     out.append(texts::error_head())?;

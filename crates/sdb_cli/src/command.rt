@@ -17,7 +17,12 @@ const MOST_INPUT: u64 = 1_099_511_627_776;
 ///
 /// `bare` answers the lines of `input`, each a request of account 1 over domains that begin empty, with
 /// one body and an LF each on `output`. Lines end at LF; the last one needs none where it isn't empty.
-pub fn run<T: Source, K: Sink>(alloc: Global, words: &Words, input: &mut T, output: &mut K) -> Status
+pub fn run<T: Source, K: Sink>(
+    alloc: Global,
+    words: &Words,
+    input: &mut T,
+    output: &mut K,
+) -> Status
     // The words are no command, and then nothing is read or written.
     ensures usage { (result ≡ Status.Usage) ↔ (words.now ≢ codes "bare" ∷ []) }
     ensures untouched { result ≡ Status.Usage → Keeps (T.left input.old) (T.left input.new) × Keeps (K.written output.old) (K.written output.new) }
@@ -39,7 +44,7 @@ pub fn run<T: Source, K: Sink>(alloc: Global, words: &Words, input: &mut T, outp
     ensures write_fault { result ≡ Status.WriteFault → Rose (K.faults output.old) (K.faults output.new) }
     ensures front { (result ≡ Status.WriteFault) ⊎ (result ≡ Status.OutOfMemory) → ((given : List ℕ) × Consumes (T.left input.old) (T.left input.new) given
         × (length given ≤ 2 ^ 40) × (AppendsFront (K.written output.old) (K.written output.new) (plain_whole given)
-            ⊎ (IsAtEnd (T.left input.new) × AppendsFront (K.written output.old) (K.written output.new) (plain given)))) }
+        ⊎ (IsAtEnd (T.left input.new) × AppendsFront (K.written output.old) (K.written output.new) (plain given)))) }
 {
     if is_bare(words) {
         bare(alloc, MOST_INPUT, input, output)

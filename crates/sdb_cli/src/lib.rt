@@ -8,7 +8,6 @@ mod command;
 mod digits;
 mod line;
 mod refusal;
-
 mod session;
 mod status;
 mod texts;

@@ -1,5 +1,3 @@
-
-
 use crate::bare::bare;
 use crate::{Status, run};
 use sdb_base::{Bytes, Numbers, Text, Words};
@@ -9,7 +7,8 @@ use std::test::Fail;
 
 const BOOKS: &[u8] = b"Action=CreateDomain&DomainName=books\n";
 
-const BOOKS_ANSWER: &[u8] = b"<?xml version=\"1.0\"?>\n<CreateDomainResponse xmlns=\"http://sdb.amazonaws.com/doc/2009-04-15/\"><ResponseMetadata><RequestId>00000000-0000-0000-0000-000000000001</RequestId><BoxUsage>0.0000050000</BoxUsage></ResponseMetadata></CreateDomainResponse>\n";
+const BOOKS_ANSWER: &[u8] =
+    b"<?xml version=\"1.0\"?>\n<CreateDomainResponse xmlns=\"http://sdb.amazonaws.com/doc/2009-04-15/\"><ResponseMetadata><RequestId>00000000-0000-0000-0000-000000000001</RequestId><BoxUsage>0.0000050000</BoxUsage></ResponseMetadata></CreateDomainResponse>\n";
 
 // A source that gives one byte at a time.
 #[derive(Drop)]
@@ -38,7 +37,11 @@ fn words(alloc: Global, texts: &[&str]) -> Result<Words, Fail> {
 }
 
 // A source of these bytes and a sink; each fails at its first call where it is told to.
-fn streams(alloc: Global, bytes: &[u8], fails: [bool; 2]) -> Result<(MemorySource, MemorySink), Fail> {
+fn streams(
+    alloc: Global,
+    bytes: &[u8],
+    fails: [bool; 2],
+) -> Result<(MemorySource, MemorySink), Fail> {
     let mut reads = Numbers::new(alloc);
     if fails[0] {
         reads.push(0)?;
@@ -52,7 +55,12 @@ fn streams(alloc: Global, bytes: &[u8], fails: [bool; 2]) -> Result<(MemorySourc
 }
 
 // The status of a run, and what it wrote.
-fn ran(alloc: Global, texts: &[&str], bytes: &[u8], fails: [bool; 2]) -> Result<(Status, MemorySink), Fail> {
+fn ran(
+    alloc: Global,
+    texts: &[&str],
+    bytes: &[u8],
+    fails: [bool; 2],
+) -> Result<(Status, MemorySink), Fail> {
     let (mut input, mut output) = streams(alloc, bytes, fails)?;
     let status = run(alloc, &words(alloc, texts)?, &mut input, &mut output);
     Ok((status, output))
@@ -88,16 +96,26 @@ fn pieces_of_one_byte_give_the_same_answers(rt: HostRuntime) -> Result<(), Fail>
 
 #[test]
 fn refusals_have_their_codes_and_messages(rt: HostRuntime) -> Result<(), Fail> {
-    let missing = b"<?xml version=\"1.0\"?>\n<Response><Errors><Error><Code>MissingParameter</Code><Message>A required parameter is missing.</Message><BoxUsage>0.0000001000</BoxUsage></Error></Errors><RequestID>00000000-0000-0000-0000-000000000001</RequestID></Response>\n";
+    let missing =
+        b"<?xml version=\"1.0\"?>\n<Response><Errors><Error><Code>MissingParameter</Code><Message>A required parameter is missing.</Message><BoxUsage>0.0000001000</BoxUsage></Error></Errors><RequestID>00000000-0000-0000-0000-000000000001</RequestID></Response>\n";
     for line in [b"\n".as_slice(), b"Action=CreateDomain"] {
         assert_eq!(rt; answered(rt.alloc(), line)?.written(), missing.as_slice());
     }
-    let not_built = b"<?xml version=\"1.0\"?>\n<Response><Errors><Error><Code>NotYetImplemented</Code><Message>The request is not built yet.</Message><BoxUsage>0.0000001000</BoxUsage></Error></Errors><RequestID>00000000-0000-0000-0000-000000000001</RequestID></Response>\n";
-    for line in [b"Action=Fly&DomainName=books\n".as_slice(), b"Action=CreateDomain&DomainName=a%41b\n", b"a+\xff"] {
+    let not_built =
+        b"<?xml version=\"1.0\"?>\n<Response><Errors><Error><Code>NotYetImplemented</Code><Message>The request is not built yet.</Message><BoxUsage>0.0000001000</BoxUsage></Error></Errors><RequestID>00000000-0000-0000-0000-000000000001</RequestID></Response>\n";
+    for line in [
+        b"Action=Fly&DomainName=books\n".as_slice(),
+        b"Action=CreateDomain&DomainName=a%41b\n",
+        b"a+\xff",
+    ] {
         assert_eq!(rt; answered(rt.alloc(), line)?.written(), not_built.as_slice());
     }
-    let invalid = b"<?xml version=\"1.0\"?>\n<Response><Errors><Error><Code>InvalidParameterValue</Code><Message>The value of a parameter is invalid.</Message><BoxUsage>0.0000001000</BoxUsage></Error></Errors><RequestID>00000000-0000-0000-0000-000000000001</RequestID></Response>\n";
-    assert_eq!(rt; answered(rt.alloc(), b"Action=\xff\n")?.written(), invalid.as_slice());
+    let invalid =
+        b"<?xml version=\"1.0\"?>\n<Response><Errors><Error><Code>InvalidParameterValue</Code><Message>The value of a parameter is invalid.</Message><BoxUsage>0.0000001000</BoxUsage></Error></Errors><RequestID>00000000-0000-0000-0000-000000000001</RequestID></Response>\n";
+    assert_eq!(rt;
+        answered(rt.alloc(), b"Action=\xff\n")?.written(),
+        invalid.as_slice()
+    );
     Ok(())
 }
 

@@ -10,5 +10,5 @@ pub returns : goal.returns
 returns c =
     let found = position_from_yields_List (λ b. b == 10) _ _ c.position.result c.position.ensures.ran (YieldsList-from_slice c.args.bytes.now cc) (λ x b q k. search (rules, tests)) in
     let P : Option ℕ → Type 0 = λ r. MatchOption r (IsOneLine c.args.bytes.now) (λ end.
-        (end < length c.args.bytes.now) × IsOneLine (take end c.args.bytes.now) × (drop end c.args.bytes.now ≡ 10 ∷ drop (end + 1) c.args.bytes.now)) in
+    (end < length c.args.bytes.now) × IsOneLine (take end c.args.bytes.now) × (drop end c.args.bytes.now ≡ 10 ∷ drop (end + 1) c.args.bytes.now)) in
     subst P (sym found) (line_end_from_position c.args.bytes.now)

@@ -1,7 +1,6 @@
 -- A step more: the proof names the number that the new value stands for.
 use Rattle.std.proofs.Common.{List, [], ◌∷◌, ◌++◌, ◌+◌, refl}
 use seplogic.Ra.Ura.{Ura}
-use mir.Syntax.{Fn}
 use mir.Val.{Val, vptr}
 use base.Logic.{SProp, ent}
 use prog.Memory.{Memory}

@@ -1,7 +1,6 @@
 -- A counter begins at 0: the proof names the number that the value stands for.
 use Rattle.std.proofs.Common.{[], ◌∷◌, refl}
 use seplogic.Ra.Ura.{Ura}
-use mir.Syntax.{Fn}
 use mir.Val.{Val}
 use base.Logic.{SProp, ent}
 use prog.Memory.{Memory}
