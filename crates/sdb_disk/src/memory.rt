@@ -1,5 +1,5 @@
 // A disk in memory, and what a crash leaves of it.
-ghost use Rattle.std.specs.Prelude.{◌≡◌, ◌<◌, ◌≤◌, ◌+◌, ◌-◌, ◌^◌, ℕ, List, reverse, min, length, take, drop, IsTrue, IsErr, IfOk, OnOk, OnErr, is_ok, if◌then◌else◌, ◌↔◌, [], None, IfSome, slice_index};
+ghost use Rattle.std.specs.Prelude.{◌≡◌, ◌<◌, ◌≤◌, ◌≢◌, ◌⊎◌, ◌+◌, ◌-◌, ◌^◌, ℕ, List, reverse, min, length, take, drop, IsTrue, IsErr, IfOk, OnOk, OnErr, is_ok, if◌then◌else◌, ◌↔◌, [], None, IfSome, slice_index};
 ghost use Rattle.std.specs.Io.{ReadsAtMost};
 ghost use Rattle.sdb_base.specs.Causes.{HasCause};
 ghost use Rattle.sdb_disk.specs.Disk.{State, Files, Image, Settled, SameFiles, Writes, Cuts, Syncs, Passes};
@@ -56,6 +56,7 @@ impl MemoryDisk {
     pub fn new(alloc: Global, fails: Numbers, stop: Option<u64>) -> MemoryDisk
         ensures empty { (k : ℕ) → (memory_state result).seen k ≡ [] }
         ensures settled { Settled (memory_state result) }
+        ensures synced { (k j : ℕ) → IsUnsynced result k j → ⊥ }
         ensures faults { (memory_state result).faults ≡ 0 }
         ensures syncs { (memory_state result).syncs ≡ 0 }
         ensures plan { plan_of result ≡ record { fails = fails; stop = stop; number = 0 } }
@@ -74,6 +75,7 @@ impl MemoryDisk {
         requires { (k : ℕ) → length (bytes_at files k) ≤ 2 ^ 62 }
         ensures files { (k : ℕ) → (memory_state result).seen k ≡ bytes_at files k }
         ensures settled { Settled (memory_state result) }
+        ensures synced { (k j : ℕ) → IsUnsynced result k j → ⊥ }
         ensures faults { (memory_state result).faults ≡ 0 }
         ensures syncs { (memory_state result).syncs ≡ 0 }
         ensures plan { plan_of result ≡ record { fails = []; stop = None; number = 0 } }
@@ -95,6 +97,7 @@ impl MemoryDisk {
             → slice_index ((memory_state result).seen k) j ≡ slice_index ((memory_state self).seen k) j }
 
         ensures settled { Settled (memory_state result) }
+        ensures synced { (k j : ℕ) → IsUnsynced result k j → ⊥ }
         ensures faults { (memory_state result).faults ≡ 0 }
         ensures syncs { (memory_state result).syncs ≡ 0 }
         ensures plan { plan_of result ≡ record { fails = []; stop = None; number = 0 } }
@@ -144,6 +147,7 @@ fn settled_disk(alloc: Global, files: [Vec<u8>; 4], fails: Numbers, stop: Option
 
 impl Disk for MemoryDisk {
     ghost use Rattle.sdb_disk.specs.Memory.{memory_state, plan_of, refuses, next_call};
+    ghost use Rattle.sdb_disk.specs.Crash.{IsUnsynced};
     ghost use Rattle.sdb_disk.specs.MemoryLaws.{may_stay, lengths, counts_now, only_now};
 
     ghost state = { memory_state };
@@ -215,6 +219,9 @@ impl Disk for MemoryDisk {
 
         ensures refused { IsTrue (refuses (plan_of self.old)) → IsErr result }
         ensures stays { OnErr result ((memory_state self.new).seen ≡ (memory_state self.old).seen) }
+        ensures same_marks { OnErr result ((k j : ℕ) → IsUnsynced self.new k j ↔ IsUnsynced self.old k j) }
+        ensures marks { OnOk result ((k j : ℕ) → IsUnsynced self.new k j
+            ↔ ((k ≡ file) × (at ≤ j) × (j < at + length bytes.now)) ⊎ IsUnsynced self.old k j) }
         ensures plan { plan_of self.new ≡ next_call (plan_of self.old) }
         ensures faults { (memory_state self.new).faults ≡ (if is_ok result then (memory_state self.old).faults else counted (memory_state self.old).faults) }
     {
@@ -247,6 +254,8 @@ impl Disk for MemoryDisk {
 
         ensures refused { IsTrue (refuses (plan_of self.old)) → IsErr result }
         ensures stays { OnErr result ((memory_state self.new).seen ≡ (memory_state self.old).seen) }
+        ensures same_marks { OnErr result ((k j : ℕ) → IsUnsynced self.new k j ↔ IsUnsynced self.old k j) }
+        ensures marks { OnOk result ((k j : ℕ) → IsUnsynced self.new k j ↔ IsUnsynced self.old k j) }
         ensures plan { plan_of self.new ≡ next_call (plan_of self.old) }
         ensures faults { (memory_state self.new).faults ≡ (if is_ok result then (memory_state self.old).faults else counted (memory_state self.old).faults) }
     {
@@ -278,6 +287,8 @@ impl Disk for MemoryDisk {
 
         ensures refused { IsTrue (refuses (plan_of self.old)) → IsErr result }
         ensures stays { OnErr result ((memory_state self.new).seen ≡ (memory_state self.old).seen) }
+        ensures same_marks { OnErr result ((k j : ℕ) → IsUnsynced self.new k j ↔ IsUnsynced self.old k j) }
+        ensures marks { OnOk result ((k j : ℕ) → IsUnsynced self.new k j ↔ ((k ≢ file) × IsUnsynced self.old k j)) }
         ensures plan { plan_of self.new ≡ next_call (plan_of self.old) }
         ensures faults { (memory_state self.new).faults ≡ (if is_ok result then (memory_state self.old).faults else counted (memory_state self.old).faults) }
     {
