@@ -221,7 +221,7 @@ impl Disk for MemoryDisk {
         ensures stays { OnErr result ((memory_state self.new).seen ≡ (memory_state self.old).seen) }
         ensures same_marks { OnErr result ((k j : ℕ) → IsUnsynced self.new k j ↔ IsUnsynced self.old k j) }
         ensures marks { OnOk result ((k j : ℕ) → IsUnsynced self.new k j
-            ↔ ((k ≡ file) × (at ≤ j) × (j < at + length bytes.now)) ⊎ IsUnsynced self.old k j) }
+            ↔ (((k ≡ file) × (at ≤ j) × (j < at + length bytes.now)) ⊎ IsUnsynced self.old k j)) }
         ensures plan { plan_of self.new ≡ next_call (plan_of self.old) }
         ensures faults { (memory_state self.new).faults ≡ (if is_ok result then (memory_state self.old).faults else counted (memory_state self.old).faults) }
     {
