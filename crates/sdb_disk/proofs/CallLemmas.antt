@@ -18,6 +18,18 @@ Elapses-trans a b c first second = record {
       (second.nothing_else a.moment f first.later left);
 }
 
+-- a run of no calls, at a disk with the laws `counts_now` and `only_now`
+pub Elapses-refl : (a : State) → ((t : ℕ) (f : Files) → t ≤ a.moment → Image a f → a.left_since t f) → ((f : Files) → a.left_since a.moment f → Image a f) → Elapses a a
+Elapses-refl a counts_now only_now = record {
+  later = omega arith;
+  nothing_else = λ t f le left. inl left;
+  keeps = λ t f le left. left;
+  adds = λ t f le left. counts_now t f le (only_now f left);
+}
+
+pub LeavesOnly-none : (a : State) (P : Files → Type 0) → ((f : Files) → a.left_since a.moment f → Image a f) → ((f : Files) → Image a f → P f) → LeavesOnly a a P
+LeavesOnly-none a P only_now here f left = here f (only_now f left)
+
 -- what holds of every crash in each of two runs holds of every crash in both
 pub LeavesOnly-trans : (a b c : State) (P : Files → Type 0) → a.moment ≤ b.moment → Elapses b c → LeavesOnly a b P → LeavesOnly b c P → LeavesOnly a c P
 LeavesOnly-trans a b c P later time first second f left =
