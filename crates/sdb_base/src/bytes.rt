@@ -54,6 +54,13 @@ impl Bytes {
         self.inner.as_slice()
     }
 
+    /// The bytes as a vector, with the memory that they stand in.
+    pub fn into_vec(self) -> Vec<u8>
+        ensures { result.items ≡ self.bytes }
+    {
+        self.inner
+    }
+
     pub fn len(&self) -> usize
         ensures { result ≡ length self.now.bytes }
     {
