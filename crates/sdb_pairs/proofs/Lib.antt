@@ -1,3 +1,5 @@
+pub mod AgreeLemmas
+pub mod EditLemmas
 pub mod EntryLemmas
 pub mod KeyLemmas
 pub mod PairLemmas

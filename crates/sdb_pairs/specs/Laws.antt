@@ -1,11 +1,15 @@
 -- What holds of every list of changes.
-use Rattle.std.specs.Prelude.{◌≡◌, ◌≢◌, ℕ, true, List, ◌++◌}
+use Rattle.std.specs.Prelude.{◌≡◌, ◌≢◌, ℕ, true, List, ◌++◌, [], ◌∷◌, map, bytes_eq}
+use Rattle.std.specs.List.{list_any}
+use Rattle.std.specs.List.Sorted.{IsStrictlySortedBy}
+use Rattle.sdb_pairs.specs.declared.pair.Pair.{Pair}
+use Rattle.sdb_pairs.specs.declared.op.Op.TheVariants.{AddPair, DropPair, DropName, DropAll}
 use Rattle.sdb_pairs.specs.declared.op.Op.{Op}
 use Rattle.sdb_pairs.specs.declared.change.Change.{Change}
 use Rattle.sdb_pairs.specs.declared.change.Change.TheVariants.{Edit}
 use Rattle.sdb_pairs.specs.Accounts.{DomainEntries, AreAccounts, has_domain, items_of, pairs_of}
 use Rattle.sdb_pairs.specs.Changes.{after, state}
-use Rattle.sdb_pairs.specs.Pairs.{merged}
+use Rattle.sdb_pairs.specs.Pairs.{pair_cmp, merged, Put, is_replaced, put, Part, whole_name, one_pair, del}
 
 -- accounts stay accounts, whatever changes are applied
 abbrev pub ChangesKeepAccountsRising : Type 0
@@ -39,3 +43,26 @@ AgreesAt (item_at account domain item) one other = pairs_of one account domain i
 abbrev pub PlacesSettle : Type 0
 PlacesSettle = (seen accounts : DomainEntries) (done more : List Change) (place : Place) → AreAccounts seen → AreAccounts accounts
     → AgreesAt place seen (state accounts done) → AgreesAt place (state seen (done ++ more)) (state accounts (done ++ more))
+
+-- accounts that agree at each place are the same
+abbrev pub PlacesTellAll : Type 0
+PlacesTellAll = (one other : DomainEntries) → AreAccounts one → AreAccounts other → ((place : Place) → AgreesAt place one other) → one ≡ other
+
+-- a put is an edit: the names that it replaces are dropped, then every pair is added
+abbrev pub PutsAreEdits : Type 0
+PutsAreEdits = (old : List Pair) (puts : List Put) (names : List (List ℕ)) → IsStrictlySortedBy pair_cmp old
+    → ((name : List ℕ) → list_any (bytes_eq name) names ≡ is_replaced puts name)
+    → merged old (map DropName names ++ map (λ p. AddPair p.pair) puts) ≡ put old puts
+
+-- the operations of a delete
+abbrev pub part_op : Part → Op
+part_op (whole_name name) = DropName name
+part_op (one_pair p) = DropPair p
+
+abbrev pub del_ops : List Part → List Op
+del_ops [] = DropAll ∷ []
+del_ops (part ∷ parts) = map part_op (part ∷ parts)
+
+-- a delete is an edit: every part is dropped, and without parts every pair
+abbrev pub DeletesAreEdits : Type 0
+DeletesAreEdits = (old : List Pair) (parts : List Part) → IsStrictlySortedBy pair_cmp old → merged old (del_ops parts) ≡ del old parts

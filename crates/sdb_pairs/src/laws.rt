@@ -1,4 +1,4 @@
-ghost use Rattle.sdb_pairs.specs.Laws.{ChangesKeepAccountsRising, EditChangesOneItem, PlacesSettle, StateOfJoined};
+ghost use Rattle.sdb_pairs.specs.Laws.{ChangesKeepAccountsRising, DeletesAreEdits, EditChangesOneItem, PlacesSettle, PlacesTellAll, PutsAreEdits, StateOfJoined};
 
 /// Accounts stay in rising order, item names and pairs too, whatever changes are applied.
 pub fn changes_keep_accounts_rising()
@@ -18,4 +18,19 @@ pub fn edit_changes_one_item()
 /// Accounts that agree with a state at one place agree with it there after the same changes once more, and after any further changes.
 pub fn places_settle()
     ensures { PlacesSettle }
+{}
+
+/// Accounts that agree at each place, which are domains and the pairs of items, are the same.
+pub fn places_tell_all()
+    ensures { PlacesTellAll }
+{}
+
+/// What a put leaves of an item's pairs is what an edit leaves that drops each replaced name and then adds each pair.
+pub fn puts_are_edits()
+    ensures { PutsAreEdits }
+{}
+
+/// What a delete leaves of an item's pairs is what an edit leaves that drops each part, or every pair where there is no part.
+pub fn deletes_are_edits()
+    ensures { DeletesAreEdits }
 {}

@@ -13,7 +13,8 @@ pub use change::{Change, Changes};
 pub use edits::merge;
 pub use item::Item;
 pub use laws::{
-    changes_keep_accounts_rising, edit_changes_one_item, places_settle, state_of_joined,
+    changes_keep_accounts_rising, deletes_are_edits, edit_changes_one_item, places_settle,
+    places_tell_all, puts_are_edits, state_of_joined,
 };
 pub use listing::{ItemOut, ItemsOut, Pairs};
 pub use op::{Op, Ops};
