@@ -1,0 +1,7 @@
+mod TrimLemmas
+mod FieldLemmas
+mod FrontLemmas
+mod FeedLemmas
+mod LookLemmas
+mod InsideLemmas
+mod TakeLemmas

@@ -1,0 +1,23 @@
+//! Messages out of the bytes of a connection, in whatever pieces they come, and the bytes of responses.
+#![tactic(auto)]
+
+mod fault;
+mod feed;
+mod fields;
+mod head;
+mod laws;
+mod layout;
+mod look;
+mod message;
+mod responses;
+mod verdict;
+mod words;
+
+pub use fault::HttpFault;
+pub use feed::Feed;
+pub use laws::{no_proper_prefix, one_reading, skipped_bytes_are_not_seen};
+pub use message::Message;
+pub use responses::response;
+
+#[cfg(test)]
+mod tests;
