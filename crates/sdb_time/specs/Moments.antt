@@ -6,6 +6,30 @@ use Rattle.jiff_core.specs.Calendar.{IsCivilDate, days_from_civil}
 use Rattle.sdb_base.specs.Decimal.{value_after}
 use Rattle.sdb_time.specs.Parts.{Parts, Zone}
 
+-- `b'-'`
+abbrev pub dash : ℕ
+dash = 45
+
+-- `b':'`
+abbrev pub colon : ℕ
+colon = 58
+
+-- `b'+'`
+abbrev pub plus : ℕ
+plus = 43
+
+-- `b'.'`
+abbrev pub dot : ℕ
+dot = 46
+
+-- `b'T'`
+abbrev pub letter_t : ℕ
+letter_t = 84
+
+-- `b'Z'`
+abbrev pub letter_z : ℕ
+letter_z = 90
+
 -- exactly so many digits, and the number that they spell
 pub record IsNumber (width : ℕ) (digits : List ℕ) (n : ℕ) : Type 0 where
   pub long : length digits ≡ width
@@ -15,22 +39,34 @@ pub record IsNumber (width : ℕ) (digits : List ℕ) (n : ℕ) : Type 0 where
 -- nothing, or `.` and 1 to 9 digits
 pub data IsFraction : List ℕ → Type 0 where
   whole : IsFraction []
-  parts_of_second : (digits : List ℕ) → list_all is_ascii_digit digits ≡ true → 1 ≤ length digits → length digits ≤ 9 → IsFraction (46 ∷ digits)
+  parts_of_second : (digits : List ℕ) → list_all is_ascii_digit digits ≡ true
+      → 1 ≤ length digits → length digits ≤ 9 → IsFraction (dot ∷ digits)
 
 -- `hh:mm`
 pub record IsOffset (text : List ℕ) (hours minutes : ℕ) : Type 0 where
   pub hour : List ℕ
   pub minute : List ℕ
-  pub spelled : text ≡ hour ++ 58 ∷ minute
+  pub spelled : text ≡ hour ++ colon ∷ minute
   pub hour_is : IsNumber 2 hour hours
   pub minute_is : IsNumber 2 minute minutes
 
+abbrev pub utc_time : Zone
+utc_time = record { is_behind = false; hours = 0; minutes = 0 }
+
+abbrev pub ahead_by : ℕ → ℕ → Zone
+ahead_by hours minutes = record { is_behind = false; hours = hours; minutes = minutes }
+
+abbrev pub behind_by : ℕ → ℕ → Zone
+behind_by hours minutes = record { is_behind = true; hours = hours; minutes = minutes }
+
 -- nothing or `Z`, which both mean UTC, or a sign and a distance
 pub data IsZone : List ℕ → Zone → Type 0 where
-  unsaid : IsZone [] (record { is_behind = false; hours = 0; minutes = 0 })
-  utc : IsZone (90 ∷ []) (record { is_behind = false; hours = 0; minutes = 0 })
-  ahead : (text : List ℕ) (hours minutes : ℕ) → IsOffset text hours minutes → IsZone (43 ∷ text) (record { is_behind = false; hours = hours; minutes = minutes })
-  behind : (text : List ℕ) (hours minutes : ℕ) → IsOffset text hours minutes → IsZone (45 ∷ text) (record { is_behind = true; hours = hours; minutes = minutes })
+  unsaid : IsZone [] utc_time
+  utc : IsZone (letter_z ∷ []) utc_time
+  ahead : (text : List ℕ) (hours minutes : ℕ) → IsOffset text hours minutes
+      → IsZone (plus ∷ text) (ahead_by hours minutes)
+  behind : (text : List ℕ) (hours minutes : ℕ) → IsOffset text hours minutes
+      → IsZone (dash ∷ text) (behind_by hours minutes)
 
 -- `YYYY-MM-DDThh:mm:ss`, then a fraction of a second and a zone
 pub record Spells (text : List ℕ) (p : Parts) : Type 0 where
@@ -42,8 +78,8 @@ pub record Spells (text : List ℕ) (p : Parts) : Type 0 where
   pub second : List ℕ
   pub fraction : List ℕ
   pub zone : List ℕ
-  pub spelled : text ≡ year ++ (45 ∷ (month ++ (45 ∷ (day ++ (84 ∷ (hour
-      ++ (58 ∷ (minute ++ (58 ∷ (second ++ (fraction ++ zone)))))))))))
+  pub spelled : text ≡ year ++ (dash ∷ (month ++ (dash ∷ (day
+      ++ (letter_t ∷ (hour ++ (colon ∷ (minute ++ (colon ∷ (second ++ (fraction ++ zone)))))))))))
   pub year_is : IsNumber 4 year p.year
   pub month_is : IsNumber 2 month p.month
   pub day_is : IsNumber 2 day p.day
@@ -60,7 +96,9 @@ clock_seconds p = 3600 * p.hour + 60 * p.minute + p.second
 -- what the zone's clocks are ahead of UTC
 abbrev pub zone_seconds : Zone → ℤ
 zone_seconds z =
-    if z.is_behind then pos 0 -ℤ pos (3600 * z.hours + 60 * z.minutes) else pos (3600 * z.hours + 60 * z.minutes)
+    if z.is_behind
+    then pos 0 -ℤ pos (3600 * z.hours + 60 * z.minutes)
+    else pos (3600 * z.hours + 60 * z.minutes)
 
 -- the hours, minutes and seconds are in range
 pub record HasClock (p : Parts) : Type 0 where
@@ -75,7 +113,8 @@ pub record HasClock (p : Parts) : Type 0 where
 pub record IsMoment (p : Parts) (seconds : ℕ) : Type 0 where
   pub date : IsCivilDate (pos p.year) p.month p.day
   pub clock : HasClock p
-  pub seconds_are : pos seconds ≡ (pos 86400 *ℤ days_from_civil (pos p.year) p.month p.day) +ℤ pos (clock_seconds p) -ℤ zone_seconds p.zone
+  pub seconds_are : pos seconds ≡ (pos 86400 *ℤ days_from_civil (pos p.year) p.month p.day)
+      +ℤ pos (clock_seconds p) -ℤ zone_seconds p.zone
 
 -- the text is of a moment at this number of seconds
 pub record IsMomentText (text : List ℕ) (seconds : ℕ) : Type 0 where

@@ -1,7 +1,7 @@
-ghost use Rattle.std.specs.Prelude.{◌≡◌, ◌↔◌, ℕ, pos, ◌+ℤ◌, ◌-ℤ◌, ◌*ℤ◌, ◌<ℤ◌, Ok, Err, IsTrue, IfSome, IfNone};
-ghost use Rattle.jiff_core.specs.Calendar.{IsCivilDate, IsEpochDay, IsWithin, days_from_civil};
+ghost use Rattle.std.specs.Prelude.{◌≡◌, ◌↔◌, ℕ, pos, ◌+ℤ◌, ◌-ℤ◌, ◌*ℤ◌, ◌<ℤ◌, Ok, Err, IfSome, IfNone};
+ghost use Rattle.jiff_core.specs.Calendar.{IsEpochDay, IsWithin};
 ghost use Rattle.sdb_time.specs.Parts.{Parts};
-ghost use Rattle.sdb_time.specs.Moments.{Spells, HasClock, clock_seconds, zone_seconds, IsMoment, IsMomentText, NamesNoMoment};
+ghost use Rattle.sdb_time.specs.Moments.{Spells, IsMoment, IsMomentText, NamesNoMoment};
 
 use crate::fault::TimeFault;
 use crate::stamp::Stamp;

@@ -1,0 +1,5 @@
+pub mod Answer
+pub mod File
+pub mod Keys
+pub mod Reading
+pub use Rattle.bstr.specs.Text
