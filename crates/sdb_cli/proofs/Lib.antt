@@ -1,4 +1,6 @@
 pub mod DigitsLemmas
-mod TextLemmas
+pub mod EscapeLemmas
+pub mod GetLemmas
 pub mod LinesLemmas
 pub mod RunsLemmas
+pub mod TextLemmas

@@ -1,8 +1,10 @@
 -- The bodies of answers.
 use Rattle.std.specs.Prelude.{ℕ, ◌/◌, ◌^◌, List, ◌∷◌, ◌++◌, codes, decimal}
+use Rattle.std.specs.List.{flat_map}
 use Rattle.sdb_cli.specs.Digits.{padded}
+use Rattle.sdb_cli.specs.Escape.{element}
 use Rattle.sdb_cli.specs.declared.refusal.Refusal.{Refusal}
-use Rattle.sdb_cli.specs.declared.refusal.Refusal.TheVariants.{NotYetImplemented, InvalidParameterValue, MissingParameter}
+use Rattle.sdb_cli.specs.declared.refusal.Refusal.TheVariants.{NotYetImplemented, InvalidParameterValue, MissingParameter, NoSuchDomain}
 
 unfoldable pub head : List ℕ
 head = codes "<?xml version=\"1.0\"?>\n<"
@@ -57,15 +59,47 @@ ending action number units = metadata ++ request_id number ++ usage ++ box_usage
 abbrev pub success : (action result : List ℕ) (number units : ℕ) → List ℕ
 success action result number units = opening action ++ (result ++ ending action number units)
 
+unfoldable pub attribute_open : List ℕ
+attribute_open = codes "<Attribute>"
+
+unfoldable pub attribute_close : List ℕ
+attribute_close = codes "</Attribute>"
+
+unfoldable pub get_result_open : List ℕ
+get_result_open = codes "<GetAttributesResult>"
+
+unfoldable pub get_result_close : List ℕ
+get_result_close = codes "</GetAttributesResult>"
+
+unfoldable pub name_tag : List ℕ
+name_tag = codes "Name"
+
+unfoldable pub value_tag : List ℕ
+value_tag = codes "Value"
+
+-- a pair of an item
+abbrev pub attribute : (List ℕ × List ℕ) → List ℕ
+attribute pair = attribute_open ++ element name_tag pair.0 ++ element value_tag pair.1 ++ attribute_close
+
+-- the pairs of an item, in their order
+abbrev pub attributes : List (List ℕ × List ℕ) → List ℕ
+attributes pairs = flat_map attribute pairs
+
+-- the result of a get
+abbrev pub get_result : List (List ℕ × List ℕ) → List ℕ
+get_result pairs = get_result_open ++ attributes pairs ++ get_result_close
+
 unfoldable pub code_of : Refusal → List ℕ
 code_of NotYetImplemented = codes "NotYetImplemented"
 code_of InvalidParameterValue = codes "InvalidParameterValue"
 code_of MissingParameter = codes "MissingParameter"
+code_of NoSuchDomain = codes "NoSuchDomain"
 
 unfoldable pub message_of : Refusal → List ℕ
 message_of NotYetImplemented = codes "The request is not built yet."
 message_of InvalidParameterValue = codes "The value of a parameter is invalid."
 message_of MissingParameter = codes "A required parameter is missing."
+message_of NoSuchDomain = codes "The specified domain does not exist."
 
 -- the body of a refused request
 abbrev pub refused : Refusal → ℕ → List ℕ

@@ -1,5 +1,6 @@
 pub mod Body
 pub mod Digits
+pub mod Escape
 pub mod Line
 pub mod Lines
 pub mod Plain

@@ -7,7 +7,9 @@ use Rattle.sdb_cli.specs.declared.refusal.Refusal.TheVariants.{NotYetImplemented
 
 -- a request, with the texts that it needs
 pub data Asked : Type 0 where
-  create_domain : List ℕ → Asked
+  create_domain : (domain : List ℕ) → Asked
+  put_attributes : (domain item name value : List ℕ) → Asked
+  get_attributes : (domain item : List ℕ) → Asked
 
 -- what stands in a piece before its first `=`, or all of it where it has none
 abbrev pub name_in : List ℕ → List ℕ
@@ -39,9 +41,38 @@ domain_name = codes "DomainName"
 unfoldable pub create_domain_action : List ℕ
 create_domain_action = codes "CreateDomain"
 
+unfoldable pub item_name : List ℕ
+item_name = codes "ItemName"
+
+unfoldable pub attribute_name : List ℕ
+attribute_name = codes "Attribute.1.Name"
+
+unfoldable pub attribute_value : List ℕ
+attribute_value = codes "Attribute.1.Value"
+
+unfoldable pub put_action : List ℕ
+put_action = codes "PutAttributes"
+
+unfoldable pub get_action : List ℕ
+get_action = codes "GetAttributes"
+
+-- the fields of each action, in order
+abbrev pub create_of : List ℕ → Result Asked Refusal
+create_of line = needed (field_of line domain_name) (λ domain. Ok (create_domain domain))
+
+abbrev pub put_of : List ℕ → Result Asked Refusal
+put_of line =
+    needed (field_of line domain_name) (λ domain. needed (field_of line item_name) (λ item.
+    needed (field_of line attribute_name) (λ name. needed (field_of line attribute_value) (λ value. Ok (put_attributes domain item name value)))))
+
+abbrev pub get_of : List ℕ → Result Asked Refusal
+get_of line = needed (field_of line domain_name) (λ domain. needed (field_of line item_name) (λ item. Ok (get_attributes domain item)))
+
 -- the request of an action
 abbrev pub fields_of : List ℕ → List ℕ → Result Asked Refusal
-fields_of line action = if bytes_eq action create_domain_action then needed (field_of line domain_name) (λ domain. Ok (create_domain domain)) else Err NotYetImplemented
+fields_of line action =
+    if bytes_eq action create_domain_action then create_of line
+    else (if bytes_eq action put_action then put_of line else (if bytes_eq action get_action then get_of line else Err NotYetImplemented))
 
 -- the request of a line that is text
 abbrev pub action_of : List ℕ → Result Asked Refusal

@@ -11,9 +11,9 @@ use sdb_base::{Bytes, OutOfMemory};
 // A unit is 10^-10 of an hour.
 const UNITS_AN_HOUR: u64 = 10_000_000_000;
 
-// Appends what stands before the result of a request that was done.
+/// Appends what stands before the result of a request that was done.
 #[tactic(auto, using(std::proofs::Common::append_assoc))]
-fn append_opening(out: &mut Bytes, action: &str) -> Result<(), OutOfMemory>
+pub(crate) fn append_opening(out: &mut Bytes, action: &str) -> Result<(), OutOfMemory>
     ensures { OnOk result (out.new.bytes ≡ out.old.bytes ++ opening action.now) }
 {
     out.append(texts::head())?;
@@ -22,9 +22,9 @@ fn append_opening(out: &mut Bytes, action: &str) -> Result<(), OutOfMemory>
     Ok(())
 }
 
-// Appends what stands after the result: the number of the request and the units that it used.
+/// Appends what stands after the result: the number of the request and the units that it used.
 #[tactic(auto, using(std::proofs::Common::append_assoc))]
-fn append_ending(out: &mut Bytes, action: &str, number: u64, units: u64) -> Result<(), OutOfMemory>
+pub(crate) fn append_ending(out: &mut Bytes, action: &str, number: u64, units: u64) -> Result<(), OutOfMemory>
     ensures { OnOk result (out.new.bytes ≡ out.old.bytes ++ ending action.now number units) }
 {
     out.append(texts::metadata())?;

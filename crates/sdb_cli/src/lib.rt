@@ -6,6 +6,8 @@ mod bare;
 mod body;
 mod command;
 mod digits;
+mod escape;
+mod get;
 mod line;
 mod refusal;
 mod session;

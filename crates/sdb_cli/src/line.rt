@@ -1,16 +1,34 @@
 ghost use Rattle.std.specs.Prelude.{◌≡◌, ◌==◌, ◌||◌, MatchResult, Some, None};
 ghost use Rattle.std.specs.List.{list_any};
 ghost use Rattle.std.specs.Option.{option_copied};
-ghost use Rattle.sdb_cli.specs.Line.{name_in, value_in, piece_named as named_piece, field_of, fields_of, action_of, asked};
+ghost use Rattle.sdb_cli.specs.Line.{name_in, value_in, piece_named as named_piece, field_of, create_of, put_of, get_of, fields_of, action_of, asked};
 ghost use Rattle.sdb_cli.specs.Requests.{seen};
 
 use crate::refusal::Refusal;
 use std::str;
 
+/// A pair of an item.
+#[derive(Clone, Copy, Debug)]
+pub(crate) struct ItemPair<'a> {
+    pub item: &'a str,
+    pub name: &'a str,
+    pub value: &'a str,
+}
+
 /// What a line asks for.
 #[derive(Clone, Copy, Debug)]
 pub(crate) enum Request<'a> {
-    CreateDomain { domain: &'a str },
+    CreateDomain {
+        domain: &'a str,
+    },
+    PutAttributes {
+        domain: &'a str,
+        pair: ItemPair<'a>,
+    },
+    GetAttributes {
+        domain: &'a str,
+        item: &'a str,
+    },
 }
 
 /// The request of a line, or its first refusal.
@@ -34,15 +52,49 @@ fn read_action(line: &str) -> Result<Request<'_>, Refusal>
     read_fields(line, action)
 }
 
-#[tactic(auto, unfolding(crate::specs::Line::create_domain_action, crate::specs::Line::domain_name))]
+#[tactic(auto, unfolding(crate::specs::Line::create_domain_action, crate::specs::Line::put_action, crate::specs::Line::get_action))]
 fn read_fields<'a>(line: &'a str, action: &str) -> Result<Request<'a>, Refusal>
     ensures { seen result ≡ fields_of line.now action.now }
 {
     if action == "CreateDomain" {
-        let domain = needed(line, "DomainName")?;
-        return Ok(Request::CreateDomain { domain });
+        return read_create(line);
+    }
+    if action == "PutAttributes" {
+        return read_put(line);
+    }
+    if action == "GetAttributes" {
+        return read_get(line);
     }
     Err(Refusal::NotYetImplemented)
+}
+
+#[tactic(auto, unfolding(crate::specs::Line::domain_name))]
+fn read_create(line: &str) -> Result<Request<'_>, Refusal>
+    ensures { seen result ≡ create_of line.now }
+{
+    let domain = needed(line, "DomainName")?;
+    Ok(Request::CreateDomain { domain })
+}
+
+#[tactic(auto, unfolding(crate::specs::Line::domain_name, crate::specs::Line::item_name, crate::specs::Line::attribute_name, crate::specs::Line::attribute_value))]
+fn read_put(line: &str) -> Result<Request<'_>, Refusal>
+    ensures { seen result ≡ put_of line.now }
+{
+    let domain = needed(line, "DomainName")?;
+    let item = needed(line, "ItemName")?;
+    let name = needed(line, "Attribute.1.Name")?;
+    let value = needed(line, "Attribute.1.Value")?;
+    let pair = ItemPair { item, name, value };
+    Ok(Request::PutAttributes { domain, pair })
+}
+
+#[tactic(auto, unfolding(crate::specs::Line::domain_name, crate::specs::Line::item_name))]
+fn read_get(line: &str) -> Result<Request<'_>, Refusal>
+    ensures { seen result ≡ get_of line.now }
+{
+    let domain = needed(line, "DomainName")?;
+    let item = needed(line, "ItemName")?;
+    Ok(Request::GetAttributes { domain, item })
 }
 
 // Escapes aren't read yet.

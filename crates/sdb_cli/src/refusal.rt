@@ -6,6 +6,7 @@ pub(crate) enum Refusal {
     NotYetImplemented,
     InvalidParameterValue,
     MissingParameter,
+    NoSuchDomain,
 }
 
 impl Refusal {
@@ -19,6 +20,7 @@ impl Refusal {
             Refusal::NotYetImplemented => "NotYetImplemented",
             Refusal::InvalidParameterValue => "InvalidParameterValue",
             Refusal::MissingParameter => "MissingParameter",
+            Refusal::NoSuchDomain => "NoSuchDomain",
         }
     }
 
@@ -30,6 +32,7 @@ impl Refusal {
             Refusal::NotYetImplemented => "The request is not built yet.",
             Refusal::InvalidParameterValue => "The value of a parameter is invalid.",
             Refusal::MissingParameter => "A required parameter is missing.",
+            Refusal::NoSuchDomain => "The specified domain does not exist.",
         }
     }
 }

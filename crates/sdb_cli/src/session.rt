@@ -1,5 +1,6 @@
 // Lines that come in pieces.
 ghost use Rattle.std.specs.Prelude.{◌≡◌, ℕ, ◌+◌, ◌-◌, ◌^◌, ◌<◌, ◌≤◌, List, [], ◌∷◌, ◌++◌, length, take, drop, OnOk, MatchOption};
+ghost use Rattle.sdb_domain.specs.Rows.{no_rows};
 ghost use Rattle.sdb_cli.specs.Lines.{IsOneLine, CutsLines, lines_of};
 ghost use Rattle.sdb_cli.specs.Plain.{answer as answer_to, after, told};
 ghost use Rattle.sdb_cli.specs.Standing.{standing};
@@ -22,7 +23,7 @@ pub(crate) struct Session {
 
 impl Session {
     pub(crate) fn new(alloc: Global) -> Session
-        ensures { standing result ≡ record { number = 1; domains = []; held = [] } }
+        ensures { standing result ≡ record { number = 1; rows = no_rows; held = [] } }
     {
         Session {
             alloc,
@@ -66,7 +67,7 @@ impl Session {
     fn end_line(&mut self, end: &[u8], out: &mut Bytes) -> Result<(), OutOfMemory>
         requires { self.old.number + 1 < 2 ^ 64 }
         ensures answer { OnOk result (out.new.bytes ≡ out.old.bytes ++ answer_to self.old.number self.old.accounts (self.old.held.items ++ end.now)) }
-        ensures after { OnOk result (standing self.new ≡ record { number = self.old.number + 1; domains = after self.old.accounts (self.old.held.items ++ end.now); held = [] }) }
+        ensures after { OnOk result (standing self.new ≡ record { number = self.old.number + 1; rows = after self.old.accounts (self.old.held.items ++ end.now); held = [] }) }
     {
         if self.held.is_empty() {
             answer(self.alloc, &mut self.accounts, self.number, end, out)?;

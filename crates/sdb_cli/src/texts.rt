@@ -1,6 +1,7 @@
 // The constant texts of bodies.
 ghost use Rattle.std.specs.Prelude.{◌≡◌};
 ghost use Rattle.sdb_cli.specs.Body as body;
+ghost use Rattle.sdb_cli.specs.Escape as escape;
 
 #[tactic(auto, unfolding(crate::specs::Body::head))]
 pub(crate) fn head() -> &'static [u8]
@@ -77,4 +78,67 @@ pub(crate) fn error_tail() -> &'static [u8]
     ensures { result.now ≡ body.error_tail }
 {
     b"</RequestID></Response>"
+}
+
+#[tactic(auto, unfolding(crate::specs::Escape::ampersand))]
+pub(crate) fn ampersand() -> &'static [u8]
+    ensures { result.now ≡ escape.ampersand }
+{
+    b"&amp;"
+}
+
+#[tactic(auto, unfolding(crate::specs::Escape::less))]
+pub(crate) fn less() -> &'static [u8]
+    ensures { result.now ≡ escape.less }
+{
+    b"&lt;"
+}
+
+#[tactic(auto, unfolding(crate::specs::Escape::greater))]
+pub(crate) fn greater() -> &'static [u8]
+    ensures { result.now ≡ escape.greater }
+{
+    b"&gt;"
+}
+
+#[tactic(auto, unfolding(crate::specs::Escape::carriage_return))]
+pub(crate) fn carriage_return() -> &'static [u8]
+    ensures { result.now ≡ escape.carriage_return }
+{
+    b"&#13;"
+}
+
+#[tactic(auto, unfolding(crate::specs::Escape::encoding))]
+pub(crate) fn encoding() -> &'static [u8]
+    ensures { result.now ≡ escape.encoding }
+{
+    b" encoding=\"base64\">"
+}
+
+#[tactic(auto, unfolding(crate::specs::Body::attribute_open))]
+pub(crate) fn attribute_open() -> &'static [u8]
+    ensures { result.now ≡ body.attribute_open }
+{
+    b"<Attribute>"
+}
+
+#[tactic(auto, unfolding(crate::specs::Body::attribute_close))]
+pub(crate) fn attribute_close() -> &'static [u8]
+    ensures { result.now ≡ body.attribute_close }
+{
+    b"</Attribute>"
+}
+
+#[tactic(auto, unfolding(crate::specs::Body::get_result_open))]
+pub(crate) fn get_result_open() -> &'static [u8]
+    ensures { result.now ≡ body.get_result_open }
+{
+    b"<GetAttributesResult>"
+}
+
+#[tactic(auto, unfolding(crate::specs::Body::get_result_close))]
+pub(crate) fn get_result_close() -> &'static [u8]
+    ensures { result.now ≡ body.get_result_close }
+{
+    b"</GetAttributesResult>"
 }

@@ -1,7 +1,8 @@
-//! The accounts with their domains, for now a plain list of rows.
+//! The accounts with their domains and items, for now a plain list of rows.
 #![tactic(auto)]
 
 mod accounts;
+mod row;
 
 pub use accounts::Accounts;
 
