@@ -1,4 +1,4 @@
-ghost use Rattle.std.specs.Prelude.{◌≡◌, ◌∷◌, ◌≤◌, ◌<◌, vec_len, vec_capacity, IfNone, IfOk, IsSome, List, OnErr, OnOk, OnSome, drop, length, ℕ, Bool, ◌+◌, if◌then◌else◌, ◌==◌};
+ghost use Rattle.std.specs.Prelude.{◌≡◌, ◌∷◌, ◌≤◌, ◌<◌, vec_len, vec_capacity, IfNone, IfOk, IsSome, List, OnErr, OnOk, OnSome, drop, length, ◌+◌, if◌then◌else◌};
 ghost use Rattle.sdb_http.specs.Feeds.{AreAll, Back, Call, GoesBack, Pushed, StandsFor, Takes, Took, empty_feed, given, joined, left, pushed, work};
 ghost use Rattle.sdb_http.specs.Inside.{IsFrontOf, held_from, taken};
 ghost use Rattle.sdb_http.specs.Messages.{trim};
