@@ -68,11 +68,11 @@ at_start front = record { start = 0; known = front.known }
 abbrev pub mark_at : Front → ℕ → Bool → Mark
 mark_at front len ended = record { front = front; len = len; ended = ended }
 
--- the bytes, the front and the mark that a push of the piece leaves
-pub record IsPushed (items piece bytes : List ℕ) (old at : Front) (len : ℕ) (ended : Bool) : Type 0 where
-  pub feed : IsFeed bytes at (Some (mark_at at len ended))
-  pub held : held_from bytes at ≡ trim (held_from items old ++ piece)
-  pub before : held_from (take len bytes) at ≡ held_from items old
+-- the bytes, the front and the mark that a push of the piece leaves, where so much was held
+pub record IsPushed (held piece bytes : List ℕ) (at : Front) (len : ℕ) : Type 0 where
+  pub feed : IsFeed bytes at (Some (mark_at at len false))
+  pub now : held_from bytes at ≡ trim (held ++ piece)
+  pub before : held_from (take len bytes) at ≡ held
 
 -- a message, as contracts see it
 abbrev pub seen : Message → Seen

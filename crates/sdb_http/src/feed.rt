@@ -1,7 +1,6 @@
-ghost use Rattle.std.specs.Prelude.{◌≡◌, ◌∷◌, ◌≤◌, ◌<◌, IfNone, IfOk, IsSome, List, OnErr, OnOk, OnSome, drop, length, ℕ, Bool, ◌+◌, if◌then◌else◌, ◌==◌};
+ghost use Rattle.std.specs.Prelude.{◌≡◌, ◌∷◌, ◌≤◌, ◌<◌, vec_len, vec_capacity, IfNone, IfOk, IsSome, List, OnErr, OnOk, OnSome, drop, length, ◌+◌, if◌then◌else◌};
 ghost use Rattle.sdb_http.specs.Feeds.{AreAll, Back, Call, GoesBack, Pushed, StandsFor, Takes, Took, empty_feed, given, joined, left, pushed, work};
-ghost use Rattle.sdb_http.specs.Inside.{IsPushed, taken};
-ghost use Rattle.sdb_http.specs.declared.feed.Front.{Front};
+ghost use Rattle.sdb_http.specs.Inside.{IsFrontOf, held_from, taken};
 ghost use Rattle.sdb_http.specs.Messages.{trim};
 
 use crate::fault::HttpFault;
@@ -123,18 +122,19 @@ impl Feed {
         ensures ok { OnOk result (self.new ≡ pushed self.old piece.now) }
         ensures err { OnErr result (self.new ≡ self.old) }
     {
-        let len = self.bytes.len();
         if self.ended {
             self.mark = Some(Mark {
                 front: self.front,
-                len,
+                len: self.bytes.len(),
                 ended: true,
             });
             return Ok(());
         }
-        let fresh = unless_skipped(self.front.start == len, piece);
-        self.bytes.extend_from_slice(fresh)?;
-        let (front, len) = compact(&mut self.bytes, self.front, len);
+        let fresh = unless_skipped(self.front.start == self.bytes.len(), piece);
+        self.bytes.reserve(fresh.len())?;
+        let front = compact(&mut self.bytes, self.front);
+        let len = self.bytes.len();
+        self.bytes.extend_from_slice(fresh).unwrap();
         self.front = front;
         self.mark = Some(Mark {
             front,
@@ -196,26 +196,23 @@ fn rest_len(held: &[u8], last: usize, layout: &Layout) -> usize
     trim(rest).len()
 }
 
-/// Drops the bytes before the front once they are more than half of the first `len` bytes, so that each
-/// byte is moved a bounded number of times. It gives the front and the length as they are then.
-fn compact(bytes: &mut Vec<u8>, front: Front, len: usize) -> (Front, usize)
-    requires within { front.start ≤ len }
-    requires all { len ≤ length bytes.old.items }
-    ensures { (items piece : List ℕ) (old : Front) (ended : Bool)
-        → IsPushed items piece bytes.old.items old front len ended
-        → IsPushed items piece bytes.new.items old result.0 result.1 ended }
+/// Drops the bytes before the front once they are more than half of all, so that each byte is moved a
+/// bounded number of times, and gives the front as it is then.
+fn compact(bytes: &mut Vec<u8>, front: Front) -> Front
+    requires { IsFrontOf bytes.old.items front }
+    ensures at_front { IsFrontOf bytes.new.items result }
+    ensures held { held_from bytes.new.items result ≡ held_from bytes.old.items front }
+    ensures len { vec_len bytes.new ≤ vec_len bytes.old }
+    ensures room { vec_capacity bytes.new ≡ vec_capacity bytes.old }
 {
-    if front.start <= len - front.start {
-        return (front, len);
+    if front.start <= bytes.len() - front.start {
+        return front;
     }
     drop_front(bytes, front.start);
-    (
-        Front {
-            start: 0,
-            known: front.known,
-        },
-        len - front.start,
-    )
+    Front {
+        start: 0,
+        known: front.known,
+    }
 }
 
 /// The bytes of a piece that are kept: after a whole head began, all.
@@ -239,7 +236,9 @@ fn trim(bytes: &[u8]) -> &[u8]
 /// Drops the first `start` bytes.
 fn drop_front(bytes: &mut Vec<u8>, start: usize)
     requires { start ≤ length bytes.old.items }
-    ensures { bytes.new.items ≡ drop start bytes.old.items }
+    ensures items { bytes.new.items ≡ drop start bytes.old.items }
+    ensures len { vec_len bytes.new ≤ vec_len bytes.old }
+    ensures room { vec_capacity bytes.new ≡ vec_capacity bytes.old }
 {
     bytes.rotate_left(start);
     bytes.truncate(bytes.len() - start);

@@ -1,4 +1,4 @@
-ghost use Rattle.std.specs.Prelude.{◌≡◌, ℕ, ◌<◌, ◌≤◌, ◌+◌, IfOk, MatchOption, length, true, false};
+ghost use Rattle.std.specs.Prelude.{◌≡◌, ℕ, ◌<◌, IfOk, MatchOption, length, false};
 ghost use Rattle.sdb_http.specs.Heads.{Judged};
 ghost use Rattle.sdb_http.specs.Layouts.{IsLayoutWithin, verdict_at};
 ghost use Rattle.sdb_http.specs.Messages.{EndsAt, closes_head};

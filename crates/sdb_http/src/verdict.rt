@@ -1,8 +1,8 @@
 ghost use Rattle.std.specs.Prelude.{◌≡◌, All, IfOk, length, map};
 ghost use Rattle.std.specs.Char.{is_ascii_digit};
-ghost use Rattle.std.specs.List.{list_all, list_any};
+ghost use Rattle.std.specs.List.{list_all};
 ghost use Rattle.httparse.specs.Spans.{IsHeaderWithin, IsWithin, header_bytes, span_bytes};
-ghost use Rattle.sdb_http.specs.Heads.{connection, content_length, host_name, is_length, length_in, length_of, lists_close, no_values, only, query_for, query_of, transfer_encoding, values_of, verb_of, verdict};
+ghost use Rattle.sdb_http.specs.Heads.{content_length, host_name, is_length, length_in, length_of, no_values, only, query_for, query_of, transfer_encoding, values_of, verb_of, verdict};
 ghost use Rattle.sdb_http.specs.Layouts.{IsLayoutWithin, bytes_at, parts_at, verdict_at};
 
 use crate::fault::HttpFault;
