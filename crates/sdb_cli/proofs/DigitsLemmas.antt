@@ -1,5 +1,5 @@
 -- Digits written from the last to the first.
-use Rattle.std.proofs.Common.{◌≡◌, ℕ, zero, suc, ◌+◌, ◌-◌, ◌/◌, ◌%◌, ◌<◌, ◌≤◌, List, ◌∷◌, ◌++◌, length, drop, slice_set, sym, ◌∙◌, ap, refl, add-one, arith, append_assoc}
+use Rattle.std.proofs.Common.{◌≡◌, ℕ, zero, suc, ◌+◌, ◌/◌, ◌%◌, ◌<◌, List, ◌++◌, length, drop, slice_set, sym, refl, add-one, arith, append_assoc}
 use Rattle.std.proofs.lemmas.Grind.{drop-set_at}
 use Rattle.sdb_cli.specs.Digits.{digit, padded}
 

@@ -1,6 +1,6 @@
 -- Texts between their special bytes.
-use Rattle.std.proofs.Common.{◌≡◌, ℕ, zero, suc, ◌+◌, ◌-◌, ◌<◌, ◌≤◌, List, [], ◌∷◌, ◌++◌, ◌||◌, length, take, drop, get_or, Bool, true, false, cond, nat_lt, ◌==◌, if◌then◌else◌, Option, Some, None, refl, sym, ◌∙◌, ap, subst, arith, append_assoc, append-nil, add-one, drop-cons, take_all}
-use Rattle.std.specs.List.{flat_map, position_or_len, position}
+use Rattle.std.proofs.Common.{◌≡◌, ℕ, zero, suc, ◌+◌, ◌-◌, ◌<◌, ◌≤◌, List, [], ◌∷◌, ◌++◌, ◌||◌, length, take, drop, get_or, Bool, true, false, cond, nat_lt, ◌==◌, if◌then◌else◌, Some, None, refl, sym, ◌∙◌, ap, subst, arith, append_assoc, append-nil, add-one, drop-cons, take_all}
+use Rattle.std.specs.List.{position_or_len, position}
 use Rattle.std.proofs.lemmas.Bool.{ltb-true, leb-false}
 use Rattle.std.proofs.lemmas.List.{drop_all, take_rest}
 use Rattle.std.proofs.lemmas.List.Concat.{flat_map-cons}

@@ -1,7 +1,6 @@
 -- Lines, cut off one after the other.
-use Rattle.std.proofs.Common.{◌≡◌, ℕ, suc, ◌+◌, ◌<◌, ◌≤◌, List, [], ◌∷◌, ◌++◌, ◌&&◌, length, take, drop, Bool, true, false, not, cond, nat_lt, ◌==◌, MatchOption, Some, None, inl, inr, refl, sym, ◌∙◌, ap, subst, arith, append_assoc, add-one, take_all, append-nil, take-append-drop, length-drop}
-use Rattle.std.specs.Prelude.{IsTrue}
-use Rattle.std.specs.List.{slice_split, onto_first, list_all, position_or_len, position, All}
+use Rattle.std.proofs.Common.{◌≡◌, ℕ, suc, ◌+◌, ◌<◌, ◌≤◌, List, [], ◌∷◌, ◌++◌, length, take, drop, Bool, true, false, not, cond, nat_lt, ◌==◌, MatchOption, Some, None, inl, inr, refl, sym, ◌∙◌, ap, subst, arith, append_assoc, add-one, take_all, append-nil, take-append-drop, length-drop}
+use Rattle.std.specs.List.{slice_split, onto_first, position_or_len, position}
 use Rattle.std.proofs.lemmas.Bool.{leb-true, leb-false, eqb-true}
 use Rattle.std.proofs.lemmas.Bool.Decides.{eqb_tells}
 use Rattle.std.proofs.lemmas.List.Folds.{list_all-append}

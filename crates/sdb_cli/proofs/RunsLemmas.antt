@@ -1,12 +1,12 @@
 -- How the steps of a run compose.
-use Rattle.std.proofs.Common.{◌≡◌, ℕ, ◌+◌, ◌<◌, ◌≤◌, List, [], ◌++◌, length, take, inl, inr, refl, sym, ◌∙◌, ap, subst, arith, append_assoc, append-nil, length-append}
+use Rattle.std.proofs.Common.{◌≡◌, ℕ, ◌+◌, ◌<◌, ◌≤◌, List, [], ◌++◌, inl, inr, refl, sym, ◌∙◌, ap, subst, arith, append_assoc, append-nil, length-append}
 use Rattle.std.specs.declared.option.Option.{Option}
-use Rattle.std.specs.Io.KnownBytes.{Appends, Consumes, Keeps, IsAtEnd}
+use Rattle.std.specs.Io.KnownBytes.{Appends, IsAtEnd}
 use Rattle.std.proofs.KnownBytes.{Appends-nil, Appends-trans, Appends-kept, Consumes-nil, Consumes-trans, Consumes-kept}
 use Rattle.sdb_io.proofs.CallLemmas.{Front-after}
 use Rattle.sdb_cli.specs.Lines.{whole_lines, lines_of, CutsLines, IsOneLine}
 use Rattle.sdb_cli.specs.Plain.{Standing, told}
-use Rattle.sdb_cli.specs.Runs.{AppendsFront, AnswersAll, AnswersWhole, AnswersLimit, AnswersFront, Ends, Going, Stops, StopsFront, Finishes}
+use Rattle.sdb_cli.specs.Runs.{AppendsFront, AnswersFront, Ends, Going, Stops, StopsFront, Finishes}
 use Rattle.sdb_cli.specs.declared.status.Status.{Status}
 use Rattle.sdb_cli.specs.declared.status.Status.TheVariants.{Done, Usage, ReadFault, OutOfMemory, WriteFault, InputTooLong}
 use Rattle.sdb_cli.proofs.LinesLemmas.{whole_lines-cuts, lines_of-cuts, told-none}

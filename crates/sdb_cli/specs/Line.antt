@@ -1,5 +1,5 @@
 -- What a line asks for.
-use Rattle.std.specs.Prelude.{ℕ, List, [], Bool, ◌&&◌, ◌||◌, ◌==◌, nat_lt, length, codes, Option, Some, None, Result, Ok, Err, option_map, if◌then◌else◌}
+use Rattle.std.specs.Prelude.{ℕ, List, ◌&&◌, ◌||◌, ◌==◌, nat_lt, length, codes, Option, Some, None, Result, Ok, Err, option_map, if◌then◌else◌}
 use Rattle.std.specs.List.{slice_split, before_first, after_first, find, list_any}
 use Rattle.std.specs.Str.{bytes_eq, is_utf8}
 use Rattle.sdb_cli.specs.declared.refusal.Refusal.{Refusal}

@@ -1,5 +1,5 @@
 -- The lines of an input.
-use Rattle.std.specs.Prelude.{ℕ, List, [], ◌∷◌, ◌++◌, ◌==◌, length, Bool, not, IsTrue, if◌then◌else◌, ◌≡◌}
+use Rattle.std.specs.Prelude.{ℕ, List, [], ◌∷◌, ◌++◌, ◌==◌, length, not, IsTrue, if◌then◌else◌, ◌≡◌}
 use Rattle.std.specs.List.{slice_split, list_all}
 
 abbrev pub but_last : List (List ℕ) → List (List ℕ)

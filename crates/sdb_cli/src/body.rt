@@ -24,7 +24,12 @@ pub(crate) fn append_opening(out: &mut Bytes, action: &str) -> Result<(), OutOfM
 
 /// Appends what stands after the result: the number of the request and the units that it used.
 #[tactic(auto, using(std::proofs::Common::append_assoc))]
-pub(crate) fn append_ending(out: &mut Bytes, action: &str, number: u64, units: u64) -> Result<(), OutOfMemory>
+pub(crate) fn append_ending(
+    out: &mut Bytes,
+    action: &str,
+    number: u64,
+    units: u64,
+) -> Result<(), OutOfMemory>
     ensures { OnOk result (out.new.bytes ≡ out.old.bytes ++ ending action.now number units) }
 {
     out.append(texts::metadata())?;

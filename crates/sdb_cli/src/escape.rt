@@ -9,7 +9,12 @@ use std::alloc::Global;
 
 /// Appends an element with a text: with its escapes, or in base64 where XML can't hold the text.
 #[tactic(auto, using(std::proofs::Common::append_assoc))]
-pub(crate) fn append_element(alloc: Global, out: &mut Bytes, tag: &str, text: &str) -> Result<(), OutOfMemory>
+pub(crate) fn append_element(
+    alloc: Global,
+    out: &mut Bytes,
+    tag: &str,
+    text: &str,
+) -> Result<(), OutOfMemory>
     ensures { OnOk result (out.new.bytes ≡ out.old.bytes ++ element tag.now text.now) }
 {
     out.append(b"<")?;
@@ -46,7 +51,12 @@ fn has_unwritable(text: &str) -> bool
 fn is_unwritable(c: char) -> bool
     ensures { result ≡ unwritable c }
 {
-    c < '\t' || c == '\u{b}' || c == '\u{c}' || '\r' < c && c < ' ' || c == '\u{fffe}' || c == '\u{ffff}'
+    c < '\t'
+        || c == '\u{b}'
+        || c == '\u{c}'
+        || '\r' < c && c < ' '
+        || c == '\u{fffe}'
+        || c == '\u{ffff}'
 }
 
 // Appends the bytes between special ones as they are.

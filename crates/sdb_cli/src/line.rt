@@ -18,17 +18,9 @@ pub(crate) struct ItemPair<'a> {
 /// What a line asks for.
 #[derive(Clone, Copy, Debug)]
 pub(crate) enum Request<'a> {
-    CreateDomain {
-        domain: &'a str,
-    },
-    PutAttributes {
-        domain: &'a str,
-        pair: ItemPair<'a>,
-    },
-    GetAttributes {
-        domain: &'a str,
-        item: &'a str,
-    },
+    CreateDomain { domain: &'a str },
+    PutAttributes { domain: &'a str, pair: ItemPair<'a> },
+    GetAttributes { domain: &'a str, item: &'a str },
 }
 
 /// The request of a line, or its first refusal.

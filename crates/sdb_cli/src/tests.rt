@@ -1,4 +1,5 @@
 use crate::bare::bare;
+use crate::escape::append_element;
 use crate::{Status, run};
 use sdb_base::{Bytes, Numbers, Text, Words};
 use sdb_io::{Failed, MemorySink, MemorySource, Source};
@@ -73,6 +74,73 @@ fn answered(alloc: Global, bytes: &[u8]) -> Result<MemorySink, Fail> {
     } else {
         Err("the run wasn't done")?
     }
+}
+
+const SESSION: &[u8] =
+    b"Action=CreateDomain&DomainName=books\nAction=PutAttributes&DomainName=books&ItemName=i1&Attribute.1.Name=title&Attribute.1.Value=Emma\nAction=GetAttributes&DomainName=books&ItemName=i1\n";
+
+const SESSION_ANSWERS: &[u8] =
+    b"<?xml version=\"1.0\"?>\n<CreateDomainResponse xmlns=\"http://sdb.amazonaws.com/doc/2009-04-15/\"><ResponseMetadata><RequestId>00000000-0000-0000-0000-000000000001</RequestId><BoxUsage>0.0000050000</BoxUsage></ResponseMetadata></CreateDomainResponse>\n<?xml version=\"1.0\"?>\n<PutAttributesResponse xmlns=\"http://sdb.amazonaws.com/doc/2009-04-15/\"><ResponseMetadata><RequestId>00000000-0000-0000-0000-000000000002</RequestId><BoxUsage>0.0000002200</BoxUsage></ResponseMetadata></PutAttributesResponse>\n<?xml version=\"1.0\"?>\n<GetAttributesResponse xmlns=\"http://sdb.amazonaws.com/doc/2009-04-15/\"><GetAttributesResult><Attribute><Name>title</Name><Value>Emma</Value></Attribute></GetAttributesResult><ResponseMetadata><RequestId>00000000-0000-0000-0000-000000000003</RequestId><BoxUsage>0.0000001050</BoxUsage></ResponseMetadata></GetAttributesResponse>\n";
+
+// What a get of the only item answers after a put of this value.
+fn value_answered(alloc: Global, value: &str) -> Result<String, Fail> {
+    let lines = format!(in alloc;
+        "Action=CreateDomain&DomainName=books\nAction=PutAttributes&DomainName=books&ItemName=i&Attribute.1.Name=n&Attribute.1.Value={value}\nAction=GetAttributes&DomainName=books&ItemName=i"
+    )?;
+    let output = answered(alloc, lines.as_bytes())?;
+    let text = std::str::from_utf8(output.written())?;
+    let (_, from_value) = text.split_once("</Name>").ok_or("no pair")?;
+    let (element, _) = from_value.split_once("</Attribute>").ok_or("no end")?;
+    Ok(String::from_str(alloc, element)?)
+}
+
+#[test]
+fn what_is_put_is_answered(rt: HostRuntime) -> Result<(), Fail> {
+    let output = answered(rt.alloc(), SESSION)?;
+    assert_eq!(rt; output.written(), SESSION_ANSWERS);
+    Ok(())
+}
+
+#[test]
+fn values_are_escaped(rt: HostRuntime) -> Result<(), Fail> {
+    let cases = [
+        ("\u{1}", "<Value encoding=\"base64\">AQ==</Value>"),
+        ("x\r", "<Value>x&#13;</Value>"),
+        ("", "<Value></Value>"),
+        ("\u{1f600}\t", "<Value>\u{1f600}\t</Value>"),
+        ("1<2>\"'", "<Value>1&lt;2&gt;\"'</Value>"),
+    ];
+    for (value, element) in cases {
+        assert_eq!(rt; value_answered(rt.alloc(), value)?.as_str(), element);
+    }
+    let mut out = Bytes::new(rt.alloc());
+    append_element(rt.alloc(), &mut out, "Value", "a&b")?;
+    assert_eq!(rt; out.as_slice(), b"<Value>a&amp;b</Value>".as_slice());
+    Ok(())
+}
+
+#[test]
+fn an_absent_domain_is_refused_and_an_absent_item_has_no_pairs(
+    rt: HostRuntime,
+) -> Result<(), Fail> {
+    let output = answered(
+        rt.alloc(),
+        b"Action=GetAttributes&DomainName=none&ItemName=i\n",
+    )?;
+    assert_eq!(rt;
+        output.written(),
+        b"<?xml version=\"1.0\"?>\n<Response><Errors><Error><Code>NoSuchDomain</Code><Message>The specified domain does not exist.</Message><BoxUsage>0.0000001000</BoxUsage></Error></Errors><RequestID>00000000-0000-0000-0000-000000000001</RequestID></Response>\n".as_slice()
+    );
+    let output = answered(
+        rt.alloc(),
+        b"Action=CreateDomain&DomainName=books\nAction=GetAttributes&DomainName=books&ItemName=i",
+    )?;
+    assert!(rt;
+        output.written().ends_with(
+            b"<GetAttributesResult></GetAttributesResult><ResponseMetadata><RequestId>00000000-0000-0000-0000-000000000002</RequestId><BoxUsage>0.0000001000</BoxUsage></ResponseMetadata></GetAttributesResponse>\n"
+        )
+    );
+    Ok(())
 }
 
 #[test]

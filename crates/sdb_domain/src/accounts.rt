@@ -98,13 +98,7 @@ impl Accounts {
         Some((&row.name, &row.value))
     }
 
-    fn nth_row(
-        &self,
-        account: AccountId,
-        domain: &Text,
-        item: &Text,
-        place: usize,
-    ) -> Option<&Row>
+    fn nth_row(&self, account: AccountId, domain: &Text, item: &Text, place: usize) -> Option<&Row>
         ensures row { option_copied result ≡ slice_get (filter (is_of account domain.now item.now) self.now.pairs) place }
         ensures rising { IsStrictlySortedBy row_cmp self.now.pairs }
         ensures few { length self.now.pairs < 2 ^ 63 }

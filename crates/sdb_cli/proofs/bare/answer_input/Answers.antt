@@ -1,4 +1,4 @@
-use Rattle.std.proofs.Common.{◌≡◌, ◌<◌, ◌≤◌, ◌+◌, ◌-◌, length, take, arith}
+use Rattle.std.proofs.Common.{◌+◌, arith}
 use Rattle.std.proofs.Math.ListN.{length-take}
 use Rattle.sdb_cli.specs.Standing.{standing}
 use Rattle.sdb_cli.proofs.RunsLemmas.{Going-more, Ends-limit, Ends-stopped, Ends-finished}

@@ -1,4 +1,4 @@
-use Rattle.std.proofs.Common.{◌≡◌, ◌≤◌, List, ℕ, length, take, sym, ◌∙◌, subst, arith}
+use Rattle.std.proofs.Common.{◌≡◌, List, ℕ, take, sym, ◌∙◌, subst, arith}
 use Rattle.std.proofs.Math.ListN.{length-take}
 use Rattle.sdb_cli.specs.Lines.{whole_lines}
 use Rattle.sdb_cli.specs.Plain.{told}

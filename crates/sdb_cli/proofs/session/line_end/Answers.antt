@@ -1,5 +1,4 @@
 use Rattle.std.proofs.Common.{◌≡◌, Option, ℕ, ◌==◌, sym, subst, MatchOption, ◌<◌, ◌+◌, ◌∷◌, length, take, drop, rules, tests}
-use Rattle.std.specs.List.{position}
 use Rattle.std.proofs.lemmas.Iterator.{YieldsList-from_slice}
 use Rattle.std.proofs.lemmas.Iterator.Search.{position_from_yields_List}
 use Rattle.sdb_cli.specs.Lines.{IsOneLine}

@@ -1,4 +1,4 @@
-use Rattle.std.proofs.Common.{◌+◌, ◌≡◌, take, sym, subst, refl}
+use Rattle.std.proofs.Common.{◌+◌, sym, subst, refl}
 use Rattle.std.proofs.lemmas.List.{take_rest}
 use Rattle.sdb_cli.specs.Standing.{standing}
 use Rattle.sdb_cli.proofs.LinesLemmas.{Fed, Fed-line}
