@@ -1,0 +1,64 @@
+ghost use Rattle.std.specs.Prelude.{◌≡◌, ℕ, [], ◌∷◌, ◌++◌, ◌==◌, IfOk, OnOk, None, Some, unwrap_or, if◌then◌else◌};
+ghost use Rattle.std.specs.Ordering.{nat_cmp};
+ghost use Rattle.std.specs.BTreeMap.{get, IsOrdered};
+ghost use Rattle.sdb_base.specs.Pairs.{value_of};
+ghost use Rattle.sdb_action.specs.Entries.{entries, entry_at};
+
+use crate::numbers::{EntryKind, part_of};
+use sdb_base::{List, OutOfMemory, Params, Text};
+use std::alloc::Global;
+use std::collections::BTreeMap;
+
+/// The entries of a numbered list, in number order: the parts of each, by their own names.
+pub(crate) type Entries = List<Params>;
+
+/// The entries of such a list that some parameter is a part of.
+pub(crate) fn entries(alloc: Global, kind: EntryKind, params: &Params) -> Result<Entries, OutOfMemory>
+    ensures { IfOk result (λ list. list ≡ entries kind params.now) }
+{
+    let mut list = List::new(alloc);
+    for (_, parts) in entries_by_place(alloc, kind, params)? {
+        list.push(parts)?;
+    }
+    Ok(list)
+}
+
+fn entries_by_place(
+    alloc: Global,
+    kind: EntryKind,
+    params: &Params,
+) -> Result<BTreeMap<u16, Params>, OutOfMemory>
+    ensures parts { IfOk result (λ map. (place : ℕ) → get nat_cmp map place ≡ entry_at kind params.now place) }
+    ensures ordered { IfOk result (λ map. IsOrdered nat_cmp map) }
+{
+    let mut map = BTreeMap::new(alloc);
+    for i in 0..params.len() {
+        let (name, value) = params.at(i);
+        if let Some((place, part)) = part_of(kind, name.as_str()) {
+            add_part(alloc, &mut map, place, part, value)?;
+        }
+    }
+    Ok(map)
+}
+
+fn add_part(
+    alloc: Global,
+    map: &mut BTreeMap<u16, Params>,
+    place: u16,
+    part: &str,
+    value: &Text,
+) -> Result<(), OutOfMemory>
+    requires { value_of (unwrap_or (get nat_cmp map.old place) []) part.now ≡ None }
+    ensures { OnOk result ((q : ℕ) → get nat_cmp map.new q
+        ≡ (if place == q then Some (unwrap_or (get nat_cmp map.old q) [] ++ (part.now, value.now) ∷ []) else get nat_cmp map.old q)) }
+{
+    let part = Text::from_str(alloc, part)?;
+    let value = value.copy(alloc)?;
+    if let Some(parts) = map.get_mut(&place) {
+        return parts.add(part, value);
+    }
+    let mut parts = Params::new(alloc);
+    parts.add(part, value)?;
+    map.insert(place, parts)?;
+    Ok(())
+}
