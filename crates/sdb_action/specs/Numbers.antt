@@ -17,7 +17,7 @@ after (c ∷ cs) [] = None
 after (c ∷ cs) (d ∷ ds) = if c == d then after cs ds else None
 
 -- the place of the entry with that number: `0`, or digits without a leading zero, at most 9999
-abbrev pub place_of : List ℕ → Option ℕ
+unfoldable pub place_of : List ℕ → Option ℕ
 place_of digits = option_map (λ number. number + 1) (decimal_of digits 9999)
 
 abbrev pub is_point : ℕ → Bool
@@ -33,7 +33,7 @@ abbrev pub at_place : List ℕ → Option ℕ → Option Part
 at_place part place = option_map (λ n. (n, part)) place
 
 -- `N.part`
-abbrev pub numbered : List ℕ → Option Part
+unfoldable pub numbered : List ℕ → Option Part
 numbered text = option_and_then (λ cut. at_place cut.1 (place_of cut.0)) (cut_at_point text)
 
 -- the part, where it is one of those that entries have

@@ -108,4 +108,4 @@ text_at fields place = present (field_at fields place)
 -- the flag is there, and is that word in any ASCII case
 abbrev pub flag_is : List ℕ → Field → Bool
 flag_is word None = false
-flag_is word (Some text) = bytes_eq (map to_ascii_lowercase text) word
+flag_is word (Some text) = bytes_eq (map to_ascii_lowercase text) (map to_ascii_lowercase word)

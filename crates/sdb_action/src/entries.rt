@@ -1,8 +1,7 @@
-ghost use Rattle.std.specs.Prelude.{◌≡◌, ℕ, [], ◌∷◌, ◌++◌, ◌==◌, IfOk, OnOk, None, Some, unwrap_or, if◌then◌else◌};
+ghost use Rattle.std.specs.Prelude.{◌≡◌, ℕ, [], ◌==◌, IfOk, OnOk, Some, unwrap_or, if◌then◌else◌};
 ghost use Rattle.std.specs.Ordering.{nat_cmp};
-ghost use Rattle.std.specs.BTreeMap.{get, IsOrdered};
-ghost use Rattle.sdb_base.specs.Pairs.{value_of};
-ghost use Rattle.sdb_action.specs.Entries.{entries, entry_at};
+ghost use Rattle.std.specs.BTreeMap.{get};
+ghost use Rattle.sdb_action.specs.Entries.{entries, entry_at, with_new};
 
 use crate::numbers::{EntryKind, part_of};
 use sdb_base::{List, OutOfMemory, Params, Text};
@@ -28,8 +27,7 @@ fn entries_by_place(
     kind: EntryKind,
     params: &Params,
 ) -> Result<BTreeMap<u16, Params>, OutOfMemory>
-    ensures parts { IfOk result (λ map. (place : ℕ) → get nat_cmp map place ≡ entry_at kind params.now place) }
-    ensures ordered { IfOk result (λ map. IsOrdered nat_cmp map) }
+    ensures { IfOk result (λ map. (place : ℕ) → get nat_cmp map place ≡ entry_at kind params.now place) }
 {
     let mut map = BTreeMap::new(alloc);
     for i in 0..params.len() {
@@ -48,17 +46,24 @@ fn add_part(
     part: &str,
     value: &Text,
 ) -> Result<(), OutOfMemory>
-    requires { value_of (unwrap_or (get nat_cmp map.old place) []) part.now ≡ None }
     ensures { OnOk result ((q : ℕ) → get nat_cmp map.new q
-        ≡ (if place == q then Some (unwrap_or (get nat_cmp map.old q) [] ++ (part.now, value.now) ∷ []) else get nat_cmp map.old q)) }
+        ≡ (if place == q then Some (with_new (unwrap_or (get nat_cmp map.old q) []) (part.now, value.now)) else get nat_cmp map.old q)) }
 {
-    let part = Text::from_str(alloc, part)?;
-    let value = value.copy(alloc)?;
     if let Some(parts) = map.get_mut(&place) {
-        return parts.add(part, value);
+        return add_new(alloc, parts, part, value);
     }
     let mut parts = Params::new(alloc);
-    parts.add(part, value)?;
+    add_new(alloc, &mut parts, part, value)?;
     map.insert(place, parts)?;
     Ok(())
+}
+
+/// Adds a part, where the entry hasn't got it yet.
+fn add_new(alloc: Global, parts: &mut Params, part: &str, value: &Text) -> Result<(), OutOfMemory>
+    ensures { OnOk result (parts.new ≡ with_new parts.old (part.now, value.now)) }
+{
+    if parts.get(part).is_some() {
+        return Ok(());
+    }
+    parts.add(Text::from_str(alloc, part)?, value.copy(alloc)?)
 }

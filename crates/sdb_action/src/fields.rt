@@ -173,74 +173,97 @@ const EXPECT: Rules<3> = Rules {
     ],
 };
 
+/// The fields of the rows, or the refusal of the first that fails.
+fn fields_by<const N: usize>(
+    alloc: Global,
+    rows: &[ParamRow],
+    params: &Params,
+) -> Result<Fields, Refusal>
+    requires { length rows.now ≡ N }
+    ensures answer { Answers (tables.fields_by params.now (map tables.seen rows.now)) result }
+    ensures count { IfOk result (λ fields. length fields ≡ N) }
+{
+    read_rules::<N>(alloc, rows, params)
+}
+
+#[tactic(auto, unfolding(crate::specs::Tables::domain_rows))]
 pub(crate) fn domain_fields(alloc: Global, params: &Params) -> Result<Fields, Refusal>
     ensures answer { Answers (tables.fields_by params.now tables.domain_rows) result }
     ensures count { IfOk result (λ fields. length fields ≡ 1) }
 {
-    read_rules::<1>(alloc, &DOMAIN.rows, params)
+    fields_by::<1>(alloc, &DOMAIN.rows, params)
 }
 
+#[tactic(auto, unfolding(crate::specs::Tables::item_rows))]
 pub(crate) fn item_fields(alloc: Global, params: &Params) -> Result<Fields, Refusal>
     ensures answer { Answers (tables.fields_by params.now tables.item_rows) result }
     ensures count { IfOk result (λ fields. length fields ≡ 2) }
 {
-    read_rules::<2>(alloc, &ITEM.rows, params)
+    fields_by::<2>(alloc, &ITEM.rows, params)
 }
 
+#[tactic(auto, unfolding(crate::specs::Tables::get_rows))]
 pub(crate) fn get_fields(alloc: Global, params: &Params) -> Result<Fields, Refusal>
     ensures answer { Answers (tables.fields_by params.now tables.get_rows) result }
     ensures count { IfOk result (λ fields. length fields ≡ 3) }
 {
-    read_rules::<3>(alloc, &GET.rows, params)
+    fields_by::<3>(alloc, &GET.rows, params)
 }
 
+#[tactic(auto, unfolding(crate::specs::Tables::list_rows))]
 pub(crate) fn list_fields(alloc: Global, params: &Params) -> Result<Fields, Refusal>
     ensures answer { Answers (tables.fields_by params.now tables.list_rows) result }
     ensures count { IfOk result (λ fields. length fields ≡ 2) }
 {
-    read_rules::<2>(alloc, &LIST.rows, params)
+    fields_by::<2>(alloc, &LIST.rows, params)
 }
 
+#[tactic(auto, unfolding(crate::specs::Tables::select_rows))]
 pub(crate) fn select_fields(alloc: Global, params: &Params) -> Result<Fields, Refusal>
     ensures answer { Answers (tables.fields_by params.now tables.select_rows) result }
     ensures count { IfOk result (λ fields. length fields ≡ 3) }
 {
-    read_rules::<3>(alloc, &SELECT.rows, params)
+    fields_by::<3>(alloc, &SELECT.rows, params)
 }
 
+#[tactic(auto, unfolding(crate::specs::Tables::put_rows))]
 pub(crate) fn put_fields(alloc: Global, params: &Params) -> Result<Fields, Refusal>
     ensures answer { Answers (tables.fields_by params.now tables.put_rows) result }
     ensures count { IfOk result (λ fields. length fields ≡ 3) }
 {
-    read_rules::<3>(alloc, &PUT.rows, params)
+    fields_by::<3>(alloc, &PUT.rows, params)
 }
 
+#[tactic(auto, unfolding(crate::specs::Tables::drop_rows))]
 pub(crate) fn drop_fields(alloc: Global, params: &Params) -> Result<Fields, Refusal>
     ensures answer { Answers (tables.fields_by params.now tables.drop_rows) result }
     ensures count { IfOk result (λ fields. length fields ≡ 2) }
 {
-    read_rules::<2>(alloc, &DROP.rows, params)
+    fields_by::<2>(alloc, &DROP.rows, params)
 }
 
+#[tactic(auto, unfolding(crate::specs::Tables::name_rows))]
 pub(crate) fn name_fields(alloc: Global, params: &Params) -> Result<Fields, Refusal>
     ensures answer { Answers (tables.fields_by params.now tables.name_rows) result }
     ensures count { IfOk result (λ fields. length fields ≡ 1) }
 {
-    read_rules::<1>(alloc, &NAME.rows, params)
+    fields_by::<1>(alloc, &NAME.rows, params)
 }
 
+#[tactic(auto, unfolding(crate::specs::Tables::item_name_rows))]
 pub(crate) fn item_name_fields(alloc: Global, params: &Params) -> Result<Fields, Refusal>
     ensures answer { Answers (tables.fields_by params.now tables.item_name_rows) result }
     ensures count { IfOk result (λ fields. length fields ≡ 1) }
 {
-    read_rules::<1>(alloc, &ITEM_NAME.rows, params)
+    fields_by::<1>(alloc, &ITEM_NAME.rows, params)
 }
 
+#[tactic(auto, unfolding(crate::specs::Tables::expect_rows))]
 pub(crate) fn expect_fields(alloc: Global, params: &Params) -> Result<Fields, Refusal>
     ensures answer { Answers (tables.fields_by params.now tables.expect_rows) result }
     ensures count { IfOk result (λ fields. length fields ≡ 3) }
 {
-    read_rules::<3>(alloc, &EXPECT.rows, params)
+    fields_by::<3>(alloc, &EXPECT.rows, params)
 }
 
 /// The text of a needed field.

@@ -81,6 +81,7 @@ fn is_named_in(parts: &Params, list: &[Params]) -> bool
 }
 
 /// Whether an item stands in two of at most 25 entries.
+#[tactic(auto, unfolding(crate::specs::Lists::names_twice))]
 fn names_twice(list: &[Params]) -> bool
     ensures { result ≡ lists.names_twice list.now }
 {

@@ -15,6 +15,7 @@ macro_rules! answer_action {
     }};
 }
 
+#[tactic(auto, unfolding(crate::specs::Actions::action_named))]
 fn action_named(name: &str) -> Option<Action>
     ensures { result ≡ action_named name.now }
 {

@@ -26,6 +26,7 @@ pub(crate) fn part_of(kind: EntryKind, name: &str) -> Option<(u16, &str)>
     }
 }
 
+#[tactic(auto, unfolding(crate::specs::Numbers::attribute_part))]
 fn attribute_part(name: &str) -> Option<(u16, &str)>
     ensures { option_map (λ part. (part.0, part.1.now)) result ≡ names.attribute_part name.now }
 {
@@ -33,6 +34,7 @@ fn attribute_part(name: &str) -> Option<(u16, &str)>
     if is_attribute_part(part.1) { Some(part) } else { None }
 }
 
+#[tactic(auto, unfolding(crate::specs::Numbers::item_part))]
 fn item_part(name: &str) -> Option<(u16, &str)>
     ensures { option_map (λ part. (part.0, part.1.now)) result ≡ names.item_part name.now }
 {
@@ -40,6 +42,7 @@ fn item_part(name: &str) -> Option<(u16, &str)>
     if is_item_part(part.1) { Some(part) } else { None }
 }
 
+#[tactic(auto, unfolding(crate::specs::Numbers::name_part))]
 fn name_part(name: &str) -> Option<(u16, &str)>
     ensures { option_map (λ part. (part.0, part.1.now)) result ≡ names.name_part name.now }
 {
@@ -50,6 +53,7 @@ fn name_part(name: &str) -> Option<(u16, &str)>
     Some((place, "Name"))
 }
 
+#[tactic(auto, unfolding(crate::specs::Numbers::expected_part))]
 fn expected_part(name: &str) -> Option<(u16, &str)>
     ensures { option_map (λ part. (part.0, part.1.now)) result ≡ names.expected_part name.now }
 {
@@ -80,6 +84,7 @@ fn is_item_part(part: &str) -> bool
 }
 
 /// `N.part`.
+#[tactic(auto, unfolding(crate::specs::Numbers::numbered))]
 fn numbered(text: &str) -> Option<(u16, &str)>
     ensures { option_map (λ part. (part.0, part.1.now)) result ≡ names.numbered text.now }
 {
@@ -94,6 +99,7 @@ fn cut_at_point(text: &str) -> Option<(&str, &str)>
     text.split_once('.')
 }
 
+#[tactic(auto, unfolding(crate::specs::Numbers::place_of))]
 fn place_of(digits: &str) -> Option<u16>
     ensures { result ≡ names.place_of digits.now }
 {
