@@ -1,5 +1,5 @@
 -- What the numbered lists of a request give: attributes, names, items, the expectation.
-use Rattle.std.specs.Prelude.{ℕ, List, [], ◌∷◌, length, map, Bool, false, not, ◌&&◌, ◌||◌, nat_lt, Option, Some, None, is_none, is_some, unwrap_or, Result, Ok, Err, if◌then◌else◌, codes}
+use Rattle.std.specs.Prelude.{ℕ, List, [], ◌∷◌, length, map, Bool, false, not, ◌&&◌, ◌||◌, nat_lt, Option, Some, None, is_none, Result, Ok, Err, if◌then◌else◌, codes}
 use Rattle.std.specs.List.{list_any}
 use Rattle.std.specs.Str.{bytes_eq}
 use Rattle.sdb_base.specs.Pairs.{NamedValues, value_of}
@@ -77,28 +77,24 @@ drop_item parts = and_then (item_name parts) (λ name. and_then (drop_parts part
 abbrev pub batch : NamedValues → Result (List NamedValues) Refusal
 batch params = and_then (at_most_25 (entries Item params)) (λ list. some_entry list)
 
--- the name of an entry's item
-abbrev pub named_item : NamedValues → List ℕ
-named_item parts = unwrap_or (value_of parts (codes "ItemName")) []
+-- whether a name stands twice
+unfoldable pub names_twice : {A : Type 0} → (A → List ℕ) → List A → Bool
+names_twice name [] = false
+names_twice name (item ∷ items) = list_any (λ other. bytes_eq (name item) (name other)) items || names_twice name items
 
--- whether two entries name one item
-abbrev pub same_item : NamedValues → NamedValues → Bool
-same_item a b = bytes_eq (named_item a) (named_item b)
+-- items that were read, where no name stands twice
+abbrev pub each_once : {A : Type 0} → (A → List ℕ) → List A → Result (List A) Refusal
+each_once name items = if names_twice name items then Err DuplicateItemName else Ok items
 
--- whether an item stands in two entries
-unfoldable pub names_twice : List NamedValues → Bool
-names_twice [] = false
-names_twice (parts ∷ list) = list_any (same_item parts) list || names_twice list
-
--- items that were read, where none stands in two entries
-abbrev pub each_once : {A : Type 0} → List NamedValues → A → Result A Refusal
-each_once list items = if names_twice list then Err DuplicateItemName else Ok items
+-- the items of a batch: their number, each of them, and then their names
+abbrev pub items_of : {A : Type 0} → (NamedValues → Result A Refusal) → (A → List ℕ) → NamedValues → Result (List A) Refusal
+items_of read name params = and_then (batch params) (λ list. and_then (each read list) (each_once name))
 
 abbrev pub put_items : NamedValues → Result (List PutItem) Refusal
-put_items params = and_then (batch params) (λ list. and_then (each put_item list) (λ items. each_once list items))
+put_items params = items_of put_item (λ item. item.name) params
 
 abbrev pub drop_items : NamedValues → Result (List DropItem) Refusal
-drop_items params = and_then (batch params) (λ list. and_then (each drop_item list) (λ items. each_once list items))
+drop_items params = items_of drop_item (λ item. item.name) params
 
 -- ---- the expectation
 

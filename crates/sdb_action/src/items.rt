@@ -1,5 +1,6 @@
 ghost use Rattle.std.specs.Prelude.{◌≡◌};
 ghost use Rattle.std.specs.List.{list_any};
+ghost use Rattle.std.specs.Str.{bytes_eq};
 ghost use Rattle.sdb_tables.specs.Answers.{Answers};
 ghost use Rattle.sdb_action.specs.Lists as lists;
 
@@ -9,7 +10,7 @@ use crate::fields::{item_name_fields, text_at};
 use crate::numbers::EntryKind;
 use crate::pairs::{drop_parts, put_pairs, some_entry};
 use crate::request::{DropItem, DropItems, PutItem, PutItems};
-use sdb_base::{Params, Text};
+use sdb_base::{List, Params, Text};
 use sdb_tables::Refusal;
 use std::alloc::Global;
 
@@ -59,35 +60,47 @@ fn batch(alloc: Global, params: &Params) -> Result<Entries, Refusal>
     some_entry(at_most_25(entries(alloc, EntryKind::Item, params)?)?)
 }
 
-fn same_item(a: &Params, b: &Params) -> bool
-    ensures { result ≡ lists.same_item a.now b.now }
-{
-    named_item(a) == named_item(b)
+/// What has a name.
+trait Named {
+    ghost use Rattle.std.specs.Prelude.{List, ℕ};
+
+    /// The name's bytes.
+    ghost named: { Self → List ℕ };
+
+    fn name(&self) -> &Text
+        ensures { result.now ≡ named self.now };
 }
 
-fn named_item(parts: &Params) -> &str
-    ensures { result.now ≡ lists.named_item parts.now }
-{
-    match parts.get("ItemName") {
-        Some(name) => name.as_str(),
-        None => "",
+impl Named for PutItem {
+    ghost named = { λ item. item.name };
+
+    fn name(&self) -> &Text {
+        &self.name
     }
 }
 
-fn is_named_in(parts: &Params, list: &[Params]) -> bool
-    ensures { result ≡ list_any (lists.same_item parts.now) list.now }
-{
-    list.iter().any(|other| same_item(parts, other))
+impl Named for DropItem {
+    ghost named = { λ item. item.name };
+
+    fn name(&self) -> &Text {
+        &self.name
+    }
 }
 
-/// Whether an item stands in two of at most 25 entries.
-#[tactic(auto, unfolding(crate::specs::Lists::names_twice))]
-fn names_twice(list: &[Params]) -> bool
-    ensures { result ≡ lists.names_twice list.now }
+fn is_among<T: Named>(item: &T, others: &[T]) -> bool
+    ensures { result ≡ list_any (λ other. bytes_eq (T.named item.now) (T.named other)) others.now }
 {
-    let mut rest = list;
-    while let [parts, later @ ..] = rest {
-        if is_named_in(parts, later) {
+    others.iter().any(|other| item.name() == other.name())
+}
+
+/// Whether a name stands twice among the at most 25 items of a batch.
+#[tactic(auto, unfolding(crate::specs::Lists::names_twice))]
+fn names_twice<T: Named>(items: &[T]) -> bool
+    ensures { result ≡ lists.names_twice T.named items.now }
+{
+    let mut rest = items;
+    while let [item, later @ ..] = rest {
+        if is_among(item, later) {
             return true;
         }
         rest = later;
@@ -95,26 +108,27 @@ fn names_twice(list: &[Params]) -> bool
     false
 }
 
+/// The items of a batch, where no name stands twice.
+fn items_of<T: FromParts + Named + Drop>(alloc: Global, params: &Params) -> Result<List<T>, Refusal>
+    ensures { Answers (lists.items_of T.reads T.named params.now) result }
+{
+    let items = each(alloc, &batch(alloc, params)?)?;
+    if names_twice(items.as_slice()) {
+        return Err(Refusal::DuplicateItemName);
+    }
+    Ok(items)
+}
+
 /// The items of a batch put.
 pub(crate) fn put_items(alloc: Global, params: &Params) -> Result<PutItems, Refusal>
     ensures { Answers (lists.put_items params.now) result }
 {
-    let list = batch(alloc, params)?;
-    let items = each(alloc, &list)?;
-    if names_twice(list.as_slice()) {
-        return Err(Refusal::DuplicateItemName);
-    }
-    Ok(items)
+    items_of(alloc, params)
 }
 
 /// The items of a batch deletion.
 pub(crate) fn drop_items(alloc: Global, params: &Params) -> Result<DropItems, Refusal>
     ensures { Answers (lists.drop_items params.now) result }
 {
-    let list = batch(alloc, params)?;
-    let items = each(alloc, &list)?;
-    if names_twice(list.as_slice()) {
-        return Err(Refusal::DuplicateItemName);
-    }
-    Ok(items)
+    items_of(alloc, params)
 }

@@ -5,10 +5,10 @@ use crate::action::Action;
 use sdb_base::Params;
 use sdb_tables::Refusal;
 
-/// Answers the action of that name, where it is one of those listed.
+/// Answers the action whose name it is, of those listed.
 macro_rules! answer_action {
-    ($name:expr; $($action:ident $text:literal),* $(,)?) => {{
-        $(if $name == $text {
+    ($name:expr; $($action:ident),* $(,)?) => {{
+        $(if $name == stringify!($action) {
             return Some(Action::$action);
         })*
         None
@@ -21,16 +21,16 @@ fn action_named(name: &str) -> Option<Action>
 {
     answer_action!(
         name;
-        CreateDomain "CreateDomain",
-        DeleteDomain "DeleteDomain",
-        ListDomains "ListDomains",
-        DomainMetadata "DomainMetadata",
-        PutAttributes "PutAttributes",
-        BatchPutAttributes "BatchPutAttributes",
-        GetAttributes "GetAttributes",
-        DeleteAttributes "DeleteAttributes",
-        BatchDeleteAttributes "BatchDeleteAttributes",
-        Select "Select",
+        CreateDomain,
+        DeleteDomain,
+        ListDomains,
+        DomainMetadata,
+        PutAttributes,
+        BatchPutAttributes,
+        GetAttributes,
+        DeleteAttributes,
+        BatchDeleteAttributes,
+        Select,
     )
 }
 
@@ -42,11 +42,8 @@ fn action_named(name: &str) -> Option<Action>
 pub fn read_action(params: &Params) -> Result<Action, Refusal>
     ensures { result ≡ action_of params.now }
 {
-    match params.get("Action") {
-        None => Err(Refusal::MissingParameter),
-        Some(name) => match action_named(name.as_str()) {
-            None => Err(Refusal::InvalidAction),
-            Some(action) => Ok(action),
-        },
-    }
+    let Some(name) = params.get("Action") else {
+        return Err(Refusal::MissingParameter);
+    };
+    action_named(name.as_str()).ok_or(Refusal::InvalidAction)
 }
