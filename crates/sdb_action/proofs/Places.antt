@@ -113,6 +113,7 @@ place_there kind params q = named_there params ∙ sym (there-first_values (filt
         ∙ ap (λ b. eqb part.0 q || b) ih
         ∙ either (eqb part.0 q) (part.1, param.1) (filter_map (part_in kind q) params)
         ∙ sym (ap (λ part. is_some (there (cons_option (value_at q part param.1) (filter_map (part_in kind q) params)))) e)
+
     named_there : (params : NamedValues) → has q (places kind params) ≡ is_some (there (filter_map (part_in kind q) params))
     named_there [] = refl
     named_there (param ∷ params) = by_part param params (part_of kind param.0) refl (named_there params)

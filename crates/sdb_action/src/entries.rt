@@ -12,7 +12,11 @@ use std::collections::BTreeMap;
 pub(crate) type Entries = List<Params>;
 
 /// The entries of such a list that some parameter is a part of.
-pub(crate) fn entries(alloc: Global, kind: EntryKind, params: &Params) -> Result<Entries, OutOfMemory>
+pub(crate) fn entries(
+    alloc: Global,
+    kind: EntryKind,
+    params: &Params,
+) -> Result<Entries, OutOfMemory>
     ensures { IfOk result (λ list. list ≡ entries kind params.now) }
 {
     let mut list = List::new(alloc);

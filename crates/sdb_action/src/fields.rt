@@ -10,13 +10,11 @@ use std::alloc::Global;
 
 /// The one field of requests that name a domain alone.
 const DOMAIN: Rules<1> = Rules {
-    rows: [
-        ParamRow {
-            name: "DomainName",
-            kind: FieldKind::Domain,
-            needed: true,
-        },
-    ],
+    rows: [ParamRow {
+        name: "DomainName",
+        kind: FieldKind::Domain,
+        needed: true,
+    }],
 };
 
 /// The fields of `PutAttributes` and `DeleteAttributes`.
@@ -132,24 +130,20 @@ const DROP: Rules<2> = Rules {
 
 /// The part of an attribute name that is asked for.
 const NAME: Rules<1> = Rules {
-    rows: [
-        ParamRow {
-            name: "Name",
-            kind: FieldKind::Name,
-            needed: true,
-        },
-    ],
+    rows: [ParamRow {
+        name: "Name",
+        kind: FieldKind::Name,
+        needed: true,
+    }],
 };
 
 /// The name of a batch's item.
 const ITEM_NAME: Rules<1> = Rules {
-    rows: [
-        ParamRow {
-            name: "ItemName",
-            kind: FieldKind::Name,
-            needed: true,
-        },
-    ],
+    rows: [ParamRow {
+        name: "ItemName",
+        kind: FieldKind::Name,
+        needed: true,
+    }],
 };
 
 /// The parts of an expectation.
@@ -278,7 +272,11 @@ pub(crate) fn text_at(alloc: Global, fields: &Fields, place: usize) -> Result<Te
 }
 
 /// The text of a field that may be absent.
-pub(crate) fn field_at(alloc: Global, fields: &Fields, place: usize) -> Result<Option<Text>, OutOfMemory>
+pub(crate) fn field_at(
+    alloc: Global,
+    fields: &Fields,
+    place: usize,
+) -> Result<Option<Text>, OutOfMemory>
     requires { place < length fields.now }
     ensures { IfOk result (λ field. field ≡ tables.field_at fields.now place) }
 {

@@ -31,7 +31,11 @@ fn attribute_part(name: &str) -> Option<(u16, &str)>
     ensures { option_map (λ part. (part.0, part.1.now)) result ≡ names.attribute_part name.now }
 {
     let part = numbered(after(name, "Attribute.")?)?;
-    if is_attribute_part(part.1) { Some(part) } else { None }
+    if is_attribute_part(part.1) {
+        Some(part)
+    } else {
+        None
+    }
 }
 
 #[tactic(auto, unfolding(crate::specs::Numbers::item_part))]
@@ -39,7 +43,11 @@ fn item_part(name: &str) -> Option<(u16, &str)>
     ensures { option_map (λ part. (part.0, part.1.now)) result ≡ names.item_part name.now }
 {
     let part = numbered(after(name, "Item.")?)?;
-    if is_item_part(part.1) { Some(part) } else { None }
+    if is_item_part(part.1) {
+        Some(part)
+    } else {
+        None
+    }
 }
 
 #[tactic(auto, unfolding(crate::specs::Numbers::name_part))]
@@ -62,7 +70,11 @@ fn expected_part(name: &str) -> Option<(u16, &str)>
         return Some((0, rest));
     }
     let part = numbered(rest)?;
-    if is_expected_part(part.1) { Some(part) } else { None }
+    if is_expected_part(part.1) {
+        Some(part)
+    } else {
+        None
+    }
 }
 
 fn is_attribute_part(part: &str) -> bool
