@@ -1,0 +1,4 @@
+pub mod Differences
+pub mod Escapes
+pub mod Queries
+pub mod Verdicts

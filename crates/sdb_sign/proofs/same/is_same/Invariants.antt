@@ -1,0 +1,6 @@
+use Rattle.std.proofs.Common.{◌≡◌, ℕ, ◌<◌, length, slice_index}
+use Rattle.sdb_sign.proofs.Differences.{AreSameTo}
+use Rattle.sdb_sign.proofs.same.is_same.Given as goal
+
+abbrev pub invariant-loop-place : goal.invariant-loop-place
+invariant-loop-place l = AreSameTo l.place l.a l.b l.differences
