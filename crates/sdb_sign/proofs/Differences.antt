@@ -1,5 +1,5 @@
 -- Differences of two texts, gathered byte by byte.
-use Rattle.std.proofs.Common.{◌≡◌, ℕ, ◌+◌, ◌%◌, ◌<◌, ◌≤◌, List, length, get_or, subst, bit_or, bit_xor, nat_eq, refl, sym, ap, ◌∙◌, arith, below_more}
+use Rattle.std.proofs.Common.{◌≡◌, ℕ, ◌+◌, ◌%◌, ◌<◌, ◌≤◌, List, length, get_or, bit_or, bit_xor, nat_eq, sym, ap, ◌∙◌, arith, below_more}
 use Rattle.std.proofs.lemmas.Nat.{le_or_l, le_or_r}
 use Rattle.std.proofs.lemmas.Nat.Bits.{bit_at-lt, bit_at-zero, bit_at_xor, same_from_bits}
 use Rattle.std.specs.Int.{bit_at}
@@ -44,4 +44,4 @@ same_more place a b differences so_far =
 -- with no difference at any place of either, the texts are equal
 pub same_all : (place : ℕ) (a b : List ℕ) (differences : ℕ) → AreSameTo place a b differences → length a ≤ place → nat_eq differences 0 ≡ bytes_eq a b
 same_all place a b differences found whole =
-    same_from_decides _ _ (Decides-eqb differences 0) (λ is. found.equal ((bytes_eq-Decides a b).0 is) , λ none. (bytes_eq-Decides a b).1 (same_number_lists a b (found.lengths none) (λ k within. found.bytes none k (omega arith))))
+    same_from_decides _ _ (Decides-eqb differences 0) (λ is. found.equal ((bytes_eq-Decides a b).0 is), λ none. (bytes_eq-Decides a b).1 (same_number_lists a b (found.lengths none) (λ k within. found.bytes none k (omega arith))))

@@ -6,7 +6,6 @@ use Rattle.sdb_keys.specs.declared.keys.Key.{Key}
 use Rattle.sdb_tables.specs.declared.refusal.Refusal.{Refusal}
 use Rattle.sdb_tables.specs.declared.refusal.Refusal.TheVariants.{OutOfMemory}
 use Rattle.sdb_time.specs.Moments.{IsMoment, IsMomentText}
-use Rattle.sdb_time.specs.Reading as reading
 use Rattle.sdb_time.proofs.Grammar.{parts_complete}
 use Rattle.sdb_sign.specs.Fresh.{ReadsAs, in_time}
 use Rattle.sdb_sign.specs.Canon.{text_to_sign}

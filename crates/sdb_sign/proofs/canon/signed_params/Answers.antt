@@ -1,7 +1,7 @@
-use Rattle.std.proofs.Common.{◌≡◌, ◌∙◌, ℕ, List, true, false, cond, map, take, refl, sym, ap}
+use Rattle.std.proofs.Common.{◌≡◌, ◌∙◌, ℕ, List, true, false, map, refl, sym, ap}
 use Rattle.std.specs.Map.Iter.{deref_pair}
 use Rattle.std.proofs.lemmas.Bool.{cond-true, cond-false}
-use Rattle.sdb_sign.specs.Canon.{is_signed_name, rising, signed_params, with_param}
+use Rattle.sdb_sign.specs.Canon.{is_signed_name, rising}
 use Rattle.sdb_sign.proofs.Queries.{map-insert_entry, signed_params-more}
 use Rattle.sdb_sign.proofs.canon.signed_params.Goals as goal
 use Rattle.sdb_sign.proofs.canon.signed_params.Goals.{then-is_signed_name+in_ok-insert, else-is_signed_name}
@@ -17,7 +17,7 @@ loop-place-preserved c =
     let param : List ℕ × List ℕ = (c.at.result.0.now, c.at.result.1.now) in
     let more = signed_params-more params place param c.at.ensures in
     elim c.if-is_signed_name.branch [
-      then-is_signed_name+in_ok-insert w ↦
+      | then-is_signed_name+in_ok-insert w ↦
           let key = w.as_str-then-is_signed_name.result in
           let value = w.as_str-then-is_signed_name-2.result in
           let signed : is_signed_name param.0 ≡ true = ap is_signed_name (sym c.as_str.ensures) ∙ sym c.is_signed_name.ensures ∙ w.if-is_signed_name.true in

@@ -1,4 +1,4 @@
-use Rattle.std.proofs.Common.{arith, length}
+use Rattle.std.proofs.Common.{arith}
 use Rattle.sdb_sign.proofs.Differences.{same_more, same_all}
 use Rattle.sdb_sign.proofs.same.is_same.Goals as goal
 

@@ -1,4 +1,3 @@
-use Rattle.std.proofs.Common.{◌≡◌, ℕ, ◌<◌, length, slice_index}
 use Rattle.sdb_sign.proofs.Differences.{AreSameTo}
 use Rattle.sdb_sign.proofs.same.is_same.Given as goal
 
