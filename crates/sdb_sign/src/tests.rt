@@ -112,12 +112,21 @@ fn texts_to_sign(rt: HostRuntime) -> Result<(), Fail> {
         &Timestamp=2010-01-01T00%3A00%3A00Z&Version=2009-04-15"
             .as_slice()
     );
-    let params = params_of(&rt, &["v=a+b%20c~*%2A&w="])?;
-    let text = string_to_sign(rt.alloc(), Verb::Post, b"[::1]", &params)?;
-    assert_eq!(rt;
-        text.as_slice(),
-        b"POST\n[::1]\n/\nv=a%20b%20c~%2A%2A&w=".as_slice()
-    );
+    for (form, query) in [
+        (
+            "v=a+b%20c~*%2A&w=",
+            b"POST\n[::1]\n/\nv=a%20b%20c~%2A%2A&w=".as_slice(),
+        ),
+        // Names are ordered by the bytes that they stand for, and not as they are written.
+        (
+            "%C3%A9=1&~=2&Z=3&a=4&=5&a.b=6&a%20b=7",
+            b"POST\n[::1]\n/\n=5&Z=3&a=4&a%20b=7&a.b=6&~=2&%C3%A9=1".as_slice(),
+        ),
+    ] {
+        let params = params_of(&rt, &[form])?;
+        let text = string_to_sign(rt.alloc(), Verb::Post, b"[::1]", &params)?;
+        assert_eq!(rt; text.as_slice(), query);
+    }
     Ok(())
 }
 
