@@ -7,7 +7,7 @@ use Rattle.sdb_pairs.specs.Accounts.{ItemEntries, DomainEntries, domain_cmp, ite
 use Rattle.sdb_pairs.specs.Changes.{items_or_none}
 use Rattle.sdb_pairs.specs.Entries.{placed}
 use Rattle.sdb_tables.specs.declared.refusal.Refusal.{Refusal}
-use Rattle.sdb_tables.specs.declared.refusal.Refusal.TheVariants.{NoSuchDomain, ConditionalCheckFailed, AttributeDoesNotExist, MultiValuedAttribute}
+use Rattle.sdb_tables.specs.declared.refusal.Refusal.TheVariants.{NoSuchDomain, ConditionalCheckFailed, AttributeDoesNotExist, MultiValuedAttribute, OutOfMemory}
 use Rattle.sdb_write.specs.Expectation.{unmet}
 use Rattle.sdb_write.specs.ItemWrites.{ItemWrite, put_write, drop_write, items_written}
 
@@ -64,10 +64,11 @@ IsSingleWrite (Put domain item expect) = Unit {0}
 IsSingleWrite (Delete domain item expect) = Unit {0}
 IsSingleWrite _ = ⊥
 
--- the refusals of a write that is no batch
+-- the refusals of a write that is no batch, and want of memory
 abbrev pub IsWriteRefusal : Refusal → Type 0
 IsWriteRefusal NoSuchDomain = Unit {0}
 IsWriteRefusal ConditionalCheckFailed = Unit {0}
 IsWriteRefusal AttributeDoesNotExist = Unit {0}
 IsWriteRefusal MultiValuedAttribute = Unit {0}
+IsWriteRefusal OutOfMemory = Unit {0}
 IsWriteRefusal _ = ⊥
