@@ -8,3 +8,6 @@ mod ops;
 
 pub use decision::decide;
 pub use laws::{writes_are_changes, writes_keep_accounts_rising};
+
+#[cfg(test)]
+mod tests;
