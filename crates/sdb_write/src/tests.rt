@@ -1,11 +1,16 @@
+//! Lines stand for requests: `make` and `remove` a domain, `put` and `delete` in its one item. Pairs are
+//! words, `name=value`, with a `!` behind where the old values of the name go. Behind ` if ` stands what
+//! is expected: a pair, or a name alone that has no value.
+
+ghost use Rattle.std.specs.Prelude.{IfOk};
 ghost use Rattle.sdb_write.specs.Writes.{IsSingleWrite};
 
 use super::*;
 use sdb_action::{DropItem, DropPart, DropParts, Expect, PutItem, PutPair, PutPairs, Request};
 use sdb_base::{AccountId, OutOfMemory, Steps, Text};
 use sdb_domain::Accounts;
-use sdb_pairs::{Change, Op, Pair};
-use sdb_tables::Refusal;
+use sdb_pairs::{Op, Pair};
+use sdb_tables::{Refusal, fault_row};
 use std::alloc::Global;
 use std::test::Fail;
 
@@ -13,321 +18,238 @@ const ACCOUNT: AccountId = AccountId(1);
 
 struct Looks;
 
-fn text(alloc: Global, s: &str) -> Result<Text, OutOfMemory> {
-    Text::from_str(alloc, s)
-}
-
-fn puts(alloc: Global, pairs: &[(&str, &str, bool)]) -> Result<PutPairs, OutOfMemory> {
-    let mut all = PutPairs::new(alloc);
-    for (name, value, replace) in pairs {
-        let name = text(alloc, name)?;
-        let value = text(alloc, value)?;
-        all.push(PutPair {
-            name,
-            value,
-            replace: *replace,
-        })?;
+fn value_of(alloc: Global, word: &str) -> Result<Option<Text>, OutOfMemory> {
+    match word.split_once('=') {
+        Some((_, value)) => Ok(Some(Text::from_str(alloc, value)?)),
+        None => Ok(None),
     }
-    Ok(all)
 }
 
-fn parts(alloc: Global, parts: &[(&str, Option<&str>)]) -> Result<DropParts, OutOfMemory> {
-    let mut all = DropParts::new(alloc);
-    for (name, value) in parts {
-        let name = text(alloc, name)?;
-        let value = match value {
-            Some(value) => Some(text(alloc, value)?),
-            None => None,
-        };
-        all.push(DropPart { name, value })?;
+fn name_of(alloc: Global, word: &str) -> Result<Text, OutOfMemory> {
+    match word.split_once('=') {
+        Some((name, _)) => Text::from_str(alloc, name),
+        None => Text::from_str(alloc, word),
     }
-    Ok(all)
 }
 
-// Decides the request and applies its changes.
-fn execute(alloc: Global, accounts: &mut Accounts, request: &Request) -> Result<(), Refusal>
-    requires { IsSingleWrite request.now }
-{
-    let changes = decide(alloc, accounts, ACCOUNT, request)?;
-    accounts.apply(alloc, &changes)?;
-    Ok(())
+fn put_pair(alloc: Global, word: &str) -> Result<PutPair, OutOfMemory> {
+    let plain = word.strip_suffix('!').unwrap_or(word);
+    let replace = plain.len() != word.len();
+    let (name, value) = plain.split_once('=').unwrap_or((plain, ""));
+    let name = Text::from_str(alloc, name)?;
+    let value = Text::from_str(alloc, value)?;
+    Ok(PutPair {
+        name,
+        value,
+        replace,
+    })
 }
 
-fn make(alloc: Global, accounts: &mut Accounts, domain: &str) -> Result<(), Refusal> {
-    execute(
-        alloc,
-        accounts,
-        &Request::CreateDomain(text(alloc, domain)?),
-    )
+fn put_pairs(alloc: Global, words: &str) -> Result<PutPairs, OutOfMemory> {
+    let mut pairs = PutPairs::new(alloc);
+    for word in words.split_ascii_whitespace() {
+        pairs.push(put_pair(alloc, word)?)?;
+    }
+    Ok(pairs)
 }
 
-fn put(
-    alloc: Global,
-    accounts: &mut Accounts,
-    item: &str,
-    pairs: &[(&str, &str, bool)],
-    expect: Option<Expect>,
-) -> Result<(), Refusal> {
-    let item = PutItem {
-        name: text(alloc, item)?,
-        pairs: puts(alloc, pairs)?,
-    };
-    execute(
-        alloc,
-        accounts,
-        &Request::Put(text(alloc, "books")?, item, expect),
-    )
+fn drop_parts(alloc: Global, words: &str) -> Result<DropParts, OutOfMemory> {
+    let mut parts = DropParts::new(alloc);
+    for word in words.split_ascii_whitespace() {
+        let name = name_of(alloc, word)?;
+        let value = value_of(alloc, word)?;
+        parts.push(DropPart { name, value })?;
+    }
+    Ok(parts)
 }
 
-fn delete(
-    alloc: Global,
-    accounts: &mut Accounts,
-    item: &str,
-    dropped: &[(&str, Option<&str>)],
-    expect: Option<Expect>,
-) -> Result<(), Refusal> {
-    let item = DropItem {
-        name: text(alloc, item)?,
-        parts: parts(alloc, dropped)?,
-    };
-    execute(
-        alloc,
-        accounts,
-        &Request::Delete(text(alloc, "books")?, item, expect),
-    )
-}
-
-fn expected(alloc: Global, name: &str, value: Option<&str>) -> Result<Option<Expect>, OutOfMemory> {
-    let name = text(alloc, name)?;
-    let value = match value {
-        Some(value) => Some(text(alloc, value)?),
-        None => None,
-    };
+fn expectation(alloc: Global, word: &str) -> Result<Option<Expect>, OutOfMemory> {
+    if word.is_empty() {
+        return Ok(None);
+    }
+    let name = name_of(alloc, word)?;
+    let value = value_of(alloc, word)?;
     Ok(Some(Expect { name, value }))
 }
 
-fn are(pairs: &[Pair], wanted: &[(&str, &str)]) -> bool {
-    if pairs.len() != wanted.len() {
-        return false;
-    }
-    for (pair, wanted) in pairs.iter().zip(wanted) {
-        if pair.name.as_str() != wanted.0 || pair.value.as_str() != wanted.1 {
-            return false;
-        }
-    }
-    true
+fn put_request(alloc: Global, words: &str, word: &str) -> Result<Request, OutOfMemory>
+    ensures { IfOk result IsSingleWrite }
+{
+    let domain = Text::from_str(alloc, "books")?;
+    let name = Text::from_str(alloc, "i")?;
+    let pairs = put_pairs(alloc, words)?;
+    let expect = expectation(alloc, word)?;
+    Ok(Request::Put(domain, PutItem { name, pairs }, expect))
 }
 
-// Whether the item of `books` has these pairs. Without pairs it isn't there.
-fn holds(
-    alloc: Global,
-    accounts: &Accounts,
-    item: &str,
-    wanted: &[(&str, &str)],
-) -> Result<bool, OutOfMemory> {
-    let Some(books) = accounts.domain(ACCOUNT, &text(alloc, "books")?) else {
-        return Ok(false);
-    };
-    match books.item(&text(alloc, item)?, &mut Steps::<Looks>::new()) {
-        Some(item) => Ok(are(item.pairs(), wanted)),
-        None => Ok(wanted.is_empty()),
+fn delete_request(alloc: Global, words: &str, word: &str) -> Result<Request, OutOfMemory>
+    ensures { IfOk result IsSingleWrite }
+{
+    let domain = Text::from_str(alloc, "books")?;
+    let name = Text::from_str(alloc, "i")?;
+    let parts = drop_parts(alloc, words)?;
+    let expect = expectation(alloc, word)?;
+    Ok(Request::Delete(domain, DropItem { name, parts }, expect))
+}
+
+fn request_of(alloc: Global, line: &str) -> Result<Request, OutOfMemory>
+    ensures { IfOk result IsSingleWrite }
+{
+    let (request, word) = line.split_once(" if ").unwrap_or((line, ""));
+    if let Some(words) = request.strip_prefix("put ") {
+        return put_request(alloc, words, word);
     }
+    if let Some(words) = request.strip_prefix("delete ") {
+        return delete_request(alloc, words, word);
+    }
+    let domain = Text::from_str(alloc, "books")?;
+    if request == "make" {
+        Ok(Request::CreateDomain(domain))
+    } else {
+        Ok(Request::DeleteDomain(domain))
+    }
+}
+
+// Decides the line's request, and applies its changes.
+fn execute(alloc: Global, accounts: &mut Accounts, line: &str) -> Result<(), Refusal> {
+    let request = request_of(alloc, line)?;
+    let changes = decide(alloc, accounts, ACCOUNT, &request)?;
+    accounts.apply(&changes)?;
+    Ok(())
+}
+
+fn code_of(answer: Result<(), Refusal>) -> &'static str {
+    match answer {
+        Ok(()) => "done",
+        Err(refusal) => fault_row(&refusal).code,
+    }
+}
+
+fn tell_pairs(told: &mut String, pairs: &[Pair]) -> Result<(), OutOfMemory> {
+    for pair in pairs {
+        told.push_str(pair.name.as_str())?;
+        told.push('=')?;
+        told.push_str(pair.value.as_str())?;
+        told.push(' ')?;
+    }
+    Ok(())
+}
+
+fn tell_item(alloc: Global, told: &mut String, accounts: &Accounts) -> Result<(), OutOfMemory> {
+    let domain = Text::from_str(alloc, "books")?;
+    let item = Text::from_str(alloc, "i")?;
+    let mut looks = Steps::<Looks>::new();
+    if let Some(books) = accounts.domain(ACCOUNT, &domain) {
+        if let Some(item) = books.item(&item, &mut looks) {
+            tell_pairs(told, item.pairs())?;
+        }
+    }
+    Ok(())
+}
+
+// The answers to the lines, over accounts that begin empty, and then the item's pairs.
+fn told(alloc: Global, lines: &[&str]) -> Result<String, OutOfMemory> {
+    let mut accounts = Accounts::new(alloc);
+    let mut told = String::new(alloc);
+    for line in lines {
+        told.push_str(code_of(execute(alloc, &mut accounts, line)))?;
+        told.push(' ')?;
+    }
+    tell_item(alloc, &mut told, &accounts)?;
+    Ok(told)
 }
 
 #[test]
 fn a_replace_takes_the_old_values_of_its_name(rt: HostRuntime) -> Result<(), Fail> {
-    let alloc = rt.alloc();
-    let mut accounts = Accounts::new(alloc);
-    make(alloc, &mut accounts, "books")?;
-    let first = [
-        ("title", "A", false),
-        ("title", "B", false),
-        ("year", "1990", false),
+    let lines = [
+        "make",
+        "put title=A title=B year=1990",
+        "put title=C! title=A year=1990",
     ];
-    put(alloc, &mut accounts, "i", &first, None)?;
-    let second = [
-        ("title", "C", true),
-        ("title", "A", false),
-        ("year", "1990", false),
-    ];
-    put(alloc, &mut accounts, "i", &second, None)?;
-    assert!(rt;
-        holds(
-            alloc,
-            &accounts,
-            "i",
-            &[("title", "A"), ("title", "C"), ("year", "1990")]
-        )?
-    );
+    let told = told(rt.alloc(), &lines)?;
+    assert_eq!(rt; told.as_str(), "done done done title=A title=C year=1990 ");
     Ok(())
 }
 
 #[test]
 fn expectations_are_judged_by_the_table(rt: HostRuntime) -> Result<(), Fail> {
-    let alloc = rt.alloc();
-    let mut accounts = Accounts::new(alloc);
-    make(alloc, &mut accounts, "books")?;
-    let pairs = [
-        ("one", "x", false),
-        ("two", "x", false),
-        ("two", "y", false),
-    ];
-    let held = [("one", "x"), ("two", "x"), ("two", "y")];
-    put(alloc, &mut accounts, "i", &pairs, None)?;
-    let rows = [
-        ("one", Some("x"), Ok(())),
-        ("one", Some("z"), Err(Refusal::ConditionalCheckFailed)),
-        ("two", Some("x"), Err(Refusal::MultiValuedAttribute)),
-        ("none", Some("x"), Err(Refusal::AttributeDoesNotExist)),
-        ("none", None, Ok(())),
-        ("one", None, Err(Refusal::ConditionalCheckFailed)),
-        ("two", None, Err(Refusal::ConditionalCheckFailed)),
-    ];
-    for (name, value, answer) in rows {
-        let new = [("zero", "1", false)];
-        let given = put(
-            alloc,
-            &mut accounts,
-            "i",
-            &new,
-            expected(alloc, name, value)?,
-        );
-        assert_eq!(rt; given, answer, "a put that expects {name}");
-        if answer.is_ok() {
-            assert!(rt;
-                holds(
-                    alloc,
-                    &accounts,
-                    "i",
-                    &[("one", "x"), ("two", "x"), ("two", "y"), ("zero", "1")]
-                )?
-            );
-            delete(
-                alloc,
-                &mut accounts,
-                "i",
-                &[("zero", None)],
-                expected(alloc, name, value)?,
-            )?;
-        } else {
-            let given = delete(
-                alloc,
-                &mut accounts,
-                "i",
-                &[],
-                expected(alloc, name, value)?,
-            );
-            assert_eq!(rt; given, answer, "a deletion that expects {name}");
-        }
-        assert!(rt; holds(alloc, &accounts, "i", &held)?);
+    for (line, wanted) in [
+        ("put a=1 if one=x", "done done done a=1 one=x two=x two=y "),
+        ("delete one if one=x", "done done done two=x two=y "),
+        (
+            "put a=1 if one=z",
+            "done done ConditionalCheckFailed one=x two=x two=y ",
+        ),
+        (
+            "delete one if two=x",
+            "done done MultiValuedAttribute one=x two=x two=y ",
+        ),
+        (
+            "put a=1 if none=x",
+            "done done AttributeDoesNotExist one=x two=x two=y ",
+        ),
+        ("put a=1 if none", "done done done a=1 one=x two=x two=y "),
+        (
+            "delete one if one",
+            "done done ConditionalCheckFailed one=x two=x two=y ",
+        ),
+        (
+            "put a=1 if two",
+            "done done ConditionalCheckFailed one=x two=x two=y ",
+        ),
+    ] {
+        let told = told(rt.alloc(), &["make", "put one=x two=x two=y", line])?;
+        assert_eq!(rt; told.as_str(), wanted);
     }
     Ok(())
 }
 
 #[test]
 fn deletions_drop_parts_or_the_whole_item(rt: HostRuntime) -> Result<(), Fail> {
-    let alloc = rt.alloc();
-    let mut accounts = Accounts::new(alloc);
-    make(alloc, &mut accounts, "books")?;
-    delete(alloc, &mut accounts, "absent", &[("a", None)], None)?;
-    assert!(rt; holds(alloc, &accounts, "absent", &[])?);
-
-    let pairs = [
-        ("a", "1", false),
-        ("a", "2", false),
-        ("b", "1", false),
-        ("c", "1", false),
-    ];
-    put(alloc, &mut accounts, "i", &pairs, None)?;
-    put(alloc, &mut accounts, "j", &pairs, None)?;
-    delete(
-        alloc,
-        &mut accounts,
-        "i",
-        &[("a", Some("2")), ("b", None), ("c", Some("2"))],
-        None,
-    )?;
-    assert!(rt; holds(alloc, &accounts, "i", &[("a", "1"), ("c", "1")])?);
-    delete(
-        alloc,
-        &mut accounts,
-        "i",
-        &[("c", None), ("a", Some("1"))],
-        None,
-    )?;
-    assert!(rt; holds(alloc, &accounts, "i", &[])?);
-    delete(alloc, &mut accounts, "j", &[], None)?;
-    assert!(rt; holds(alloc, &accounts, "j", &[])?);
+    for (line, wanted) in [
+        ("delete a=2 b c=2", "done done done a=1 c=1 "),
+        ("delete c b a=1 a=2", "done done done "),
+        ("delete ", "done done done "),
+    ] {
+        let told = told(rt.alloc(), &["make", "put a=1 a=2 b=1 b=2 c=1", line])?;
+        assert_eq!(rt; told.as_str(), wanted);
+    }
+    let told = told(rt.alloc(), &["make", "delete a", "delete "])?;
+    assert_eq!(rt; told.as_str(), "done done done ");
     Ok(())
 }
 
 #[test]
 fn a_domain_has_to_be_there_for_items_alone(rt: HostRuntime) -> Result<(), Fail> {
-    let alloc = rt.alloc();
-    let mut accounts = Accounts::new(alloc);
-    let wanted = [("a", "1", false)];
-    let given = put(
-        alloc,
-        &mut accounts,
-        "i",
-        &wanted,
-        expected(alloc, "a", Some("1"))?,
-    );
-    assert_eq!(rt; given, Err(Refusal::NoSuchDomain));
-    let given = delete(
-        alloc,
-        &mut accounts,
-        "i",
-        &[],
-        expected(alloc, "a", Some("1"))?,
-    );
-    assert_eq!(rt; given, Err(Refusal::NoSuchDomain));
-    execute(
-        alloc,
-        &mut accounts,
-        &Request::DeleteDomain(text(alloc, "books")?),
-    )?;
-
-    make(alloc, &mut accounts, "books")?;
-    put(alloc, &mut accounts, "i", &wanted, None)?;
-    make(alloc, &mut accounts, "books")?;
-    assert!(rt; holds(alloc, &accounts, "i", &[("a", "1")])?);
-    execute(
-        alloc,
-        &mut accounts,
-        &Request::DeleteDomain(text(alloc, "books")?),
-    )?;
-    assert!(rt; accounts.domain(ACCOUNT, &text(alloc, "books")?).is_none());
+    let absent = ["put a=1 if a=1", "delete  if a=1", "remove"];
+    let first = told(rt.alloc(), &absent)?;
+    assert_eq!(rt; first.as_str(), "NoSuchDomain NoSuchDomain done ");
+    let made = ["make", "put a=1", "make"];
+    let second = told(rt.alloc(), &made)?;
+    assert_eq!(rt; second.as_str(), "done done done a=1 ");
+    let removed = ["make", "put a=1", "remove", "make"];
+    let third = told(rt.alloc(), &removed)?;
+    assert_eq!(rt; third.as_str(), "done done done done ");
     Ok(())
+}
+
+// The names that a put drops, each with a blank behind.
+fn dropped(alloc: Global, words: &str) -> Result<String, OutOfMemory> {
+    let pairs = put_pairs(alloc, words)?;
+    let ops = ops::put_ops(alloc, pairs.as_slice())?;
+    let mut names = String::new(alloc);
+    for op in ops.as_slice() {
+        if let Op::DropName(name) = op {
+            names.push_str(name.as_str())?;
+            names.push(' ')?;
+        }
+    }
+    Ok(names)
 }
 
 #[test]
 fn a_put_drops_each_replaced_name_once(rt: HostRuntime) -> Result<(), Fail> {
-    let alloc = rt.alloc();
-    let mut accounts = Accounts::new(alloc);
-    make(alloc, &mut accounts, "books")?;
-    let pairs = [
-        ("c", "1", false),
-        ("b", "1", true),
-        ("a", "1", true),
-        ("b", "2", true),
-        ("c", "2", true),
-    ];
-    let item = PutItem {
-        name: text(alloc, "i")?,
-        pairs: puts(alloc, &pairs)?,
-    };
-    let request = Request::Put(text(alloc, "books")?, item, None);
-    let changes = decide(alloc, &accounts, ACCOUNT, &request)?;
-    let [Change::Edit(_, _, _, ops)] = changes.as_slice() else {
-        return Err("a put is one edit")?;
-    };
-    assert_eq!(rt; ops.len(), 8);
-    for (op, wanted) in ops.as_slice().iter().zip(["b", "a", "c"]) {
-        let Op::DropName(name) = op else {
-            return Err("names are dropped first")?;
-        };
-        assert_eq!(rt; name.as_str(), wanted);
-    }
+    let names = dropped(rt.alloc(), "c=1 b=1! a=1! b=2! c=2!")?;
+    assert_eq!(rt; names.as_str(), "b a c ");
     Ok(())
 }
