@@ -22,10 +22,12 @@ text_pair pair text = rw (is_utf8-from_IsUtf8 pair.0 text.0, is_utf8-from_IsUtf8
 spoiled_pair : (pair : List ℕ × List ℕ) → ¬ (IsTextPair pair) → is_text_pair pair ≡ false
 spoiled_pair pair spoiled =
     elim (is_utf8 pair.0) as (λ a. is_utf8 pair.0 ≡ a → (a && is_utf8 pair.1) ≡ false) [
-      false ↦ λ e. refl
-    | true ↦ λ e. elim (is_utf8 pair.1) as (λ b. is_utf8 pair.1 ≡ b → (true && b) ≡ false) [
-        false ↦ λ d. refl
-      | true ↦ λ d. absurd (spoiled (IsUtf8-from_is_utf8 pair.0 e, IsUtf8-from_is_utf8 pair.1 d)) ] refl ] refl
+      | false ↦ λ e. refl
+      | true ↦ λ e. elim (is_utf8 pair.1) as (λ b. is_utf8 pair.1 ≡ b → (true && b) ≡ false) [
+        | false ↦ λ d. refl
+        | true ↦ λ d. absurd (spoiled (IsUtf8-from_is_utf8 pair.0 e, IsUtf8-from_is_utf8 pair.1 d))
+      ] refl
+    ] refl
 
 texts_pass : (pairs : NamedValues) → All IsTextPair pairs → list_all is_text_pair pairs ≡ true
 texts_pass pairs all = list_all-from_AllPass is_text_pair pairs (λ k d inside. text_pair (get_or pairs k d) (all k d inside))
@@ -42,8 +44,9 @@ none_apart : (name : List ℕ) (names : List (List ℕ)) → list_any (bytes_eq 
 none_apart name [] none = tt
 none_apart name (other ∷ names) none =
     elim (bytes_eq name other) as (λ t. bytes_eq name other ≡ t → (t || list_any (bytes_eq name) names) ≡ false → AllByRecursion (λ other. bytes_eq name other ≡ false) (other ∷ names)) [
-      true ↦ λ e n. cc
-    | false ↦ λ e n. (e, none_apart name names n) ] refl none
+      | true ↦ λ e n. cc
+      | false ↦ λ e n. (e, none_apart name names n)
+    ] refl none
 
 distinct_pass : (names : List (List ℕ)) → IsDistinct bytes_eq names → are_distinct names ≡ true
 distinct_pass [] distinct = refl
@@ -65,8 +68,9 @@ pass_distinct (name ∷ names) pass =
 not_distinct : (names : List (List ℕ)) (place : ℕ) → IsRepeat names place → are_distinct names ≡ false
 not_distinct names place repeat =
     elim (are_distinct names) as (λ t. are_distinct names ≡ t → t ≡ false) [
-      false ↦ λ e. refl
-    | true ↦ λ e. absurd (no_repeat names place (pass_distinct names e) repeat) ] refl
+      | false ↦ λ e. refl
+      | true ↦ λ e. absurd (no_repeat names place (pass_distinct names e) repeat)
+    ] refl
 
 pub params_of-ok : (form : List ℕ) (params : NamedValues) → IsParams form params → params_of form ≡ Ok params
 unfolding params_of

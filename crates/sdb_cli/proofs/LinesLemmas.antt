@@ -62,7 +62,6 @@ split-line (b ∷ line) rest one = split-line-step b line rest (lf b) refl one (
 some_part : (bytes : List ℕ) → 0 < length (slice_split lf bytes)
 some_part bytes = omega (arith, length-slice_split lf bytes)
 
-
 -- a line that ends: its answer, and what is told then
 pub told-line : (cut : List ℕ → List (List ℕ)) → CutsLines cut → (now next : Standing) (line rest : List ℕ) → IsOneLine now.held → IsOneLine line
     → next ≡ record { number = now.number + 1; accounts = after now.accounts (now.held ++ line); held = [] }

@@ -66,8 +66,9 @@ last-alike : (cut : List ℕ → List (List ℕ)) → CutsLines cut → (number 
     → (most_line < length one) → (most_line < length other) → answers number accounts (cut one) ≡ answers number accounts (cut other)
 last-alike cut cuts number accounts one other a b long also =
     elim cuts.last [
-      inl keeps ↦ ap (answers number accounts) (keeps one a (omega arith)) ∙ answers-alike number accounts one other [] (inr (long, also)) ∙ ap (answers number accounts) (sym (keeps other b (omega arith)))
-    | inr drops ↦ ap (answers number accounts) (drops one a ∙ sym (drops other b)) ]
+      | inl keeps ↦ ap (answers number accounts) (keeps one a (omega arith)) ∙ answers-alike number accounts one other [] (inr (long, also)) ∙ ap (answers number accounts) (sym (keeps other b (omega arith)))
+      | inr drops ↦ ap (answers number accounts) (drops one a ∙ sym (drops other b))
+    ]
 
 first-alike : (cut : List ℕ → List (List ℕ)) → CutsLines cut → (number : ℕ) (accounts : DomainEntries) (one other line rest more : List ℕ) → IsOneLine one → IsOneLine other → IsOneLine line
     → more ≡ line ++ 10 ∷ rest → Alike one other → answers number accounts (cut (one ++ more)) ≡ answers number accounts (cut (other ++ more))
@@ -84,11 +85,12 @@ long-alike : (cut : List ℕ → List (List ℕ)) → CutsLines cut → (number 
     → (most_line < length one) → (most_line < length other) → answers number accounts (cut (one ++ more)) ≡ answers number accounts (cut (other ++ more))
 long-alike cut cuts number accounts one other more a b long also =
     elim (position (λ b. b == 10) more) as (λ r. MatchOption r (IsOneLine more) (λ end.
-    (end < length more) × IsOneLine (take end more) × (drop end more ≡ 10 ∷ drop (end + 1) more)) → answers number accounts (cut (one ++ more)) ≡ answers number accounts (cut (other ++ more)))
-    [ None ↦ λ no. last-alike cut cuts number accounts (one ++ more) (other ++ more) (IsOneLine-append one more a no) (IsOneLine-append other more b no)
-        (omega (arith, length-append one more)) (omega (arith, length-append other more))
-    | Some at ↦ λ found. first-alike cut cuts number accounts one other (take at more) (drop (at + 1) more) more a b found.1
-        (sym (take-append-drop at more) ∙ ap (λ l. take at more ++ l) found.2) (inr (long, also)) ]
+    (end < length more) × IsOneLine (take end more) × (drop end more ≡ 10 ∷ drop (end + 1) more)) → answers number accounts (cut (one ++ more)) ≡ answers number accounts (cut (other ++ more))) [
+      | None ↦ λ no. last-alike cut cuts number accounts (one ++ more) (other ++ more) (IsOneLine-append one more a no) (IsOneLine-append other more b no)
+          (omega (arith, length-append one more)) (omega (arith, length-append other more))
+      | Some at ↦ λ found. first-alike cut cuts number accounts one other (take at more) (drop (at + 1) more) more a b found.1
+          (sym (take-append-drop at more) ∙ ap (λ l. take at more ++ l) found.2) (inr (long, also))
+    ]
     (line_end_from_position more)
 
 -- what lines that are alike are told

@@ -13,13 +13,15 @@ pub decided-done : (accounts new : DomainEntries) (account : ℕ) (request : Req
     → decision accounts account request ≡ Ok cs → new ≡ state accounts cs → write accounts account request ≡ Ok new
 decided-done accounts new account request cs single rising decided applied =
     elim (write accounts account request) as (λ r. write accounts account request ≡ r → in_place_of r (changes account request) ≡ Ok cs → r ≡ Ok new) [
-      Ok left ↦ λ e d.
+      | Ok left ↦ λ e d.
           let same : changes account request ≡ cs = cc in
           ap Ok (sym (writes_are_changes accounts left account request single rising e) ∙ ap (state accounts) same ∙ sym applied)
-    | Err refusal ↦ λ e d. cc ] refl decided
+      | Err refusal ↦ λ e d. cc
+    ] refl decided
 
 pub decided-refused : (accounts : DomainEntries) (account : ℕ) (request : Request) (refusal : Refusal) → decision accounts account request ≡ Err refusal → write accounts account request ≡ Err refusal
 decided-refused accounts account request refusal decided =
     elim (write accounts account request) as (λ r. in_place_of r (changes account request) ≡ Err refusal → r ≡ Err refusal) [
-      Ok left ↦ λ d. cc
-    | Err other ↦ λ d. let same : other ≡ refusal = cc in ap Err same ] decided
+      | Ok left ↦ λ d. cc
+      | Err other ↦ λ d. let same : other ≡ refusal = cc in ap Err same
+    ] decided

@@ -67,10 +67,42 @@ fn execute(
     ensures bytes { OnOk result (out.new.bytes ≡ out.old.bytes ++ reply number accounts.old request.now) }
 {
     match request {
-        Request::CreateDomain(_) => write(alloc, accounts, request, "CreateDomain", number, DOMAIN_UNITS, out),
-        Request::DeleteDomain(_) => write(alloc, accounts, request, "DeleteDomain", number, DOMAIN_UNITS, out),
-        Request::Put(_, item, _) => write(alloc, accounts, request, "PutAttributes", number, write_units(item.pairs.len()), out),
-        Request::Delete(_, item, _) => write(alloc, accounts, request, "DeleteAttributes", number, write_units(item.parts.len()), out),
+        Request::CreateDomain(_) => write(
+            alloc,
+            accounts,
+            request,
+            "CreateDomain",
+            number,
+            DOMAIN_UNITS,
+            out,
+        ),
+        Request::DeleteDomain(_) => write(
+            alloc,
+            accounts,
+            request,
+            "DeleteDomain",
+            number,
+            DOMAIN_UNITS,
+            out,
+        ),
+        Request::Put(_, item, _) => write(
+            alloc,
+            accounts,
+            request,
+            "PutAttributes",
+            number,
+            write_units(item.pairs.len()),
+            out,
+        ),
+        Request::Delete(_, item, _) => write(
+            alloc,
+            accounts,
+            request,
+            "DeleteAttributes",
+            number,
+            write_units(item.parts.len()),
+            out,
+        ),
         Request::Get(domain, item, names) => get(alloc, accounts, domain, item, names, number, out),
         Request::ListDomains(_, _)
         | Request::DomainMetadata(_)

@@ -21,10 +21,10 @@ loop-name-preserved c =
     let same : key ≡ c.name-item.result = c.as_str.ensures in
     let longer : take (i + 1) names ≡ take i names ++ key ∷ [] = take_more names i c.name-item.result inside ∙ ap (λ name. take i names ++ name ∷ []) (sym c.name-item.is ∙ sym same) in
     λ name.
-        c.in_ok-insert.ensures.updates.0 (record { ref_ptr = (0, 0); now = name })
-        ∙ ap (λ old. cond (is_eq (slice_cmp nat_cmp key name)) true old) (c.loop-name.invariant name)
-        ∙ found_more name key (take i names)
-        ∙ ap (list_any (bytes_eq name)) (sym longer)
+    c.in_ok-insert.ensures.updates.0 (record { ref_ptr = (0, 0); now = name })
+    ∙ ap (λ old. cond (is_eq (slice_cmp nat_cmp key name)) true old) (c.loop-name.invariant name)
+    ∙ found_more name key (take i names)
+    ∙ ap (list_any (bytes_eq name)) (sym longer)
 
 pub returns : goal.returns
 returns c =
