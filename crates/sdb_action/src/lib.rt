@@ -2,9 +2,23 @@
 #![tactic(auto)]
 
 mod action;
+mod asking;
+mod each;
+mod entries;
+mod expecting;
+mod fields;
+mod items;
+mod naming;
+mod numbers;
+mod pairs;
 mod request;
 
 pub use action::Action;
+pub use asking::read_request;
+pub use naming::read_action;
 pub use request::{
     DropItem, DropItems, DropPart, DropParts, Expect, PutItem, PutItems, PutPair, PutPairs, Request,
 };
+
+#[cfg(test)]
+mod tests;

@@ -1,0 +1,50 @@
+-- The actions and their names (SimpleDB Developer Guide, "API Reference").
+use Rattle.std.specs.Prelude.{ℕ, List, [], ◌∷◌, Option, Some, None, Result, Ok, Err, codes}
+use Rattle.std.specs.Map.{lookup}
+use Rattle.std.specs.Str.{bytes_eq}
+use Rattle.sdb_base.specs.Pairs.{NamedValues, value_of}
+use Rattle.sdb_tables.specs.declared.refusal.Refusal.{Refusal}
+use Rattle.sdb_tables.specs.declared.refusal.Refusal.TheVariants.{MissingParameter, InvalidAction}
+use Rattle.sdb_action.specs.declared.action.Action.{Action}
+use Rattle.sdb_action.specs.declared.action.Action.TheVariants.{CreateDomain, DeleteDomain, ListDomains, DomainMetadata, PutAttributes, BatchPutAttributes, GetAttributes, DeleteAttributes, BatchDeleteAttributes, Select}
+
+-- the ten actions
+abbrev pub actions : List (List ℕ × Action)
+actions =
+    (codes "CreateDomain", CreateDomain)
+    ∷
+    (codes "DeleteDomain", DeleteDomain)
+    ∷
+    (codes "ListDomains", ListDomains)
+    ∷
+    (codes "DomainMetadata", DomainMetadata)
+    ∷
+    (codes "PutAttributes", PutAttributes)
+    ∷
+    (codes "BatchPutAttributes", BatchPutAttributes)
+    ∷
+    (codes "GetAttributes", GetAttributes)
+    ∷
+    (codes "DeleteAttributes", DeleteAttributes)
+    ∷
+    (codes "BatchDeleteAttributes", BatchDeleteAttributes)
+    ∷
+    (codes "Select", Select)
+    ∷
+    []
+
+-- the action of that name
+unfoldable pub action_named : List ℕ → Option Action
+action_named name = lookup (bytes_eq name) actions
+
+abbrev pub one_of_ten : Option Action → Result Action Refusal
+one_of_ten None = Err InvalidAction
+one_of_ten (Some action) = Ok action
+
+abbrev pub named_action : Option (List ℕ) → Result Action Refusal
+named_action None = Err MissingParameter
+named_action (Some name) = one_of_ten (action_named name)
+
+-- the action that the parameters name
+abbrev pub action_of : NamedValues → Result Action Refusal
+action_of params = named_action (value_of params (codes "Action"))

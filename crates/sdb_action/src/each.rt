@@ -1,0 +1,31 @@
+ghost use Rattle.sdb_tables.specs.Answers.{Answers};
+ghost use Rattle.sdb_action.specs.Steps as steps;
+
+use crate::entries::Entries;
+use sdb_base::{List, Params};
+use sdb_tables::Refusal;
+use std::alloc::Global;
+
+/// What one entry of a numbered list is read as.
+pub(crate) trait FromParts: Sized {
+    ghost use Rattle.std.specs.Prelude.{List, ℕ, Result};
+    ghost use Rattle.sdb_tables.specs.declared.refusal.Refusal.{Refusal};
+
+    /// What the entry's parts give, or why they are refused.
+    ghost reads: { List (List ℕ × List ℕ) → Result Self Refusal };
+
+    /// Reads the parts of one entry.
+    fn from_parts(alloc: Global, parts: &Params) -> Result<Self, Refusal>
+        ensures { Answers (reads parts.now) result };
+}
+
+/// What each entry is read as, in order. The first that is refused decides.
+pub(crate) fn each<T: FromParts + Drop>(alloc: Global, list: &Entries) -> Result<List<T>, Refusal>
+    ensures { Answers (steps.each T.reads list.now) result }
+{
+    let mut members = List::new(alloc);
+    for parts in list.as_slice() {
+        members.push(T::from_parts(alloc, parts)?)?;
+    }
+    Ok(members)
+}

@@ -1,0 +1,95 @@
+ghost use Rattle.std.specs.Prelude.{◌≡◌};
+ghost use Rattle.sdb_tables.specs.Answers.{Answers};
+ghost use Rattle.sdb_action.specs.Lists as lists;
+
+use crate::each::{FromParts, each};
+use crate::entries::{Entries, entries};
+use crate::fields::{drop_fields, field_at, flag_is, name_fields, put_fields, text_at};
+use crate::numbers::EntryKind;
+use crate::request::{DropPart, DropParts, PutPair, PutPairs};
+use sdb_base::{Params, Text, Texts};
+use sdb_tables::Refusal;
+use std::alloc::Global;
+
+/// The greatest number of attributes or attribute names in one list.
+const MOST_ATTRIBUTES: usize = 256;
+
+impl FromParts for PutPair {
+    ghost reads = { lists.put_pair };
+
+    fn from_parts(alloc: Global, parts: &Params) -> Result<PutPair, Refusal> {
+        let fields = put_fields(alloc, parts)?;
+        let name = text_at(alloc, &fields, 0)?;
+        let value = text_at(alloc, &fields, 1)?;
+        let replace = flag_is("true", &fields, 2);
+        Ok(PutPair {
+            name,
+            value,
+            replace,
+        })
+    }
+}
+
+impl FromParts for DropPart {
+    ghost reads = { lists.drop_part };
+
+    fn from_parts(alloc: Global, parts: &Params) -> Result<DropPart, Refusal> {
+        let fields = drop_fields(alloc, parts)?;
+        let name = text_at(alloc, &fields, 0)?;
+        let value = field_at(alloc, &fields, 1)?;
+        Ok(DropPart { name, value })
+    }
+}
+
+impl FromParts for Text {
+    ghost reads = { lists.asked_name };
+
+    fn from_parts(alloc: Global, parts: &Params) -> Result<Text, Refusal> {
+        let fields = name_fields(alloc, parts)?;
+        text_at(alloc, &fields, 0)
+    }
+}
+
+fn at_most_256(list: Entries) -> Result<Entries, Refusal>
+    ensures { result ≡ lists.at_most_256 list }
+{
+    if list.len() > MOST_ATTRIBUTES {
+        return Err(Refusal::NumberSubmittedAttributesExceeded(list.len() as u64));
+    }
+    Ok(list)
+}
+
+/// Refuses a list without entries.
+pub(crate) fn some_entry(list: Entries) -> Result<Entries, Refusal>
+    ensures { result ≡ lists.some_entry list }
+{
+    if list.is_empty() {
+        return Err(Refusal::MissingParameter);
+    }
+    Ok(list)
+}
+
+/// The pairs of a put, of which there is at least one.
+pub(crate) fn put_pairs(alloc: Global, params: &Params) -> Result<PutPairs, Refusal>
+    ensures { Answers (lists.put_pairs params.now) result }
+{
+    let list = at_most_256(entries(alloc, EntryKind::Attribute, params)?)?;
+    let list = some_entry(list)?;
+    each(alloc, &list)
+}
+
+/// The parts of a deletion.
+pub(crate) fn drop_parts(alloc: Global, params: &Params) -> Result<DropParts, Refusal>
+    ensures { Answers (lists.drop_parts params.now) result }
+{
+    let list = at_most_256(entries(alloc, EntryKind::Attribute, params)?)?;
+    each(alloc, &list)
+}
+
+/// The attribute names that are asked for.
+pub(crate) fn asked_names(alloc: Global, params: &Params) -> Result<Texts, Refusal>
+    ensures { Answers (lists.asked_names params.now) result }
+{
+    let list = at_most_256(entries(alloc, EntryKind::AttributeName, params)?)?;
+    each(alloc, &list)
+}
