@@ -1,0 +1,5 @@
+pub mod Differences
+pub mod Escapes
+pub mod Queries
+pub mod Rising
+pub mod Verdicts

@@ -1,0 +1,85 @@
+-- The text that is signed (signature version 2).
+use Rattle.std.specs.Prelude.{ℕ, ◌+◌, ◌/◌, ◌%◌, Bool, not, ◌||◌, ◌==◌, nat_lt, List, [], ◌∷◌, ◌++◌, codes, map, filter, if◌then◌else◌}
+use Rattle.std.specs.Char.{is_ascii_alphanumeric, to_ascii_lowercase}
+use Rattle.std.specs.List.{flat_map, fold, join_by}
+use Rattle.std.specs.BTreeMap.{insert_entry}
+use Rattle.std.specs.Str.{bytes_eq}
+use Rattle.sdb_base.specs.declared.verb.Verb.{Verb}
+use Rattle.sdb_base.specs.declared.verb.Verb.TheVariants.{Get, Post}
+use Rattle.sdb_base.specs.Pairs.{NamedValues}
+use Rattle.sdb_base.specs.Texts.{text_cmp}
+
+-- `b'\n'`
+abbrev pub line_feed : ℕ
+line_feed = 10
+
+-- `b'%'`
+abbrev pub percent : ℕ
+percent = 37
+
+-- `b'/'`
+abbrev pub slash : ℕ
+slash = 47
+
+-- `b'='`
+abbrev pub equals_sign : ℕ
+equals_sign = 61
+
+-- `b'&'`
+abbrev pub ampersand : ℕ
+ampersand = 38
+
+-- the unreserved characters, `A-Z a-z 0-9 - . _ ~` (RFC 3986, section 2.3)
+abbrev pub is_unreserved : ℕ → Bool
+is_unreserved b = is_ascii_alphanumeric b || b == 45 || b == 46 || b == 95 || b == 126
+
+-- the upper-case hexadecimal digit of a number below 16
+abbrev pub hex_digit : ℕ → ℕ
+hex_digit n = if nat_lt n 10 then 48 + n else 55 + n
+
+-- an unreserved byte stays, and any other is `%` and two hexadecimal digits
+abbrev pub escaped_byte : ℕ → List ℕ
+escaped_byte b =
+    if is_unreserved b then b ∷ [] else percent ∷ hex_digit (b / 16) ∷ hex_digit (b % 16) ∷ []
+
+unfoldable pub escaped : List ℕ → List ℕ
+escaped text = flat_map escaped_byte text
+
+-- `Signature`
+unfoldable pub signature_name : List ℕ
+signature_name = codes "Signature"
+
+-- every parameter is signed but the signature
+abbrev pub is_signed_name : List ℕ → Bool
+is_signed_name name = not (bytes_eq name signature_name)
+
+-- a parameter put among others that rise by name, where they go on rising
+abbrev pub with_param : NamedValues → List ℕ × List ℕ → NamedValues
+with_param rising param = insert_entry text_cmp rising param.0 param.1
+
+-- parameters whose names are distinct, rising by name
+unfoldable pub rising : NamedValues → NamedValues
+rising params = fold with_param [] params
+
+-- the parameters that are signed, rising by name
+abbrev pub signed_params : NamedValues → NamedValues
+signed_params params = rising (filter (λ param. is_signed_name param.0) params)
+
+-- `name=value`, with escapes
+abbrev pub written : List ℕ × List ℕ → List ℕ
+written param = escaped param.0 ++ equals_sign ∷ escaped param.1
+
+-- the canonical query: the signed parameters in order, joined by `&`
+abbrev pub canonical_query : NamedValues → List ℕ
+canonical_query params = join_by written (ampersand ∷ []) (signed_params params)
+
+abbrev pub verb_word : Verb → List ℕ
+verb_word Get = codes "GET"
+verb_word Post = codes "POST"
+
+-- the text to sign: the verb, the host without regard to case, the path `/` and the canonical query, each
+-- but the last with a line feed
+abbrev pub text_to_sign : Verb → List ℕ → NamedValues → List ℕ
+text_to_sign verb host params =
+    verb_word verb ++ line_feed ∷ (map to_ascii_lowercase host
+    ++ line_feed ∷ slash ∷ line_feed ∷ canonical_query params)

@@ -1,0 +1,81 @@
+"""Signs puts of several sizes, and times their check in Python beside the rates of `sdb_sign::verify`."""
+import base64
+import hashlib
+import hmac
+import sys
+import time
+from urllib.parse import parse_qsl, quote
+
+SECRET = b"SECRET1"
+HOST = "LocalHost:8080"
+SIZES = [1, 16, 256]
+
+
+def escape(text):
+    return quote(text, safe="-_.~")
+
+
+def text_to_sign(params):
+    pairs = sorted((name.encode(), value) for name, value in params.items() if name != "Signature")
+    query = "&".join(escape(name) + "=" + escape(value) for name, value in pairs)
+    return "GET\n" + HOST.lower() + "\n/\n" + query
+
+
+def signature_of(text):
+    return base64.b64encode(hmac.new(SECRET, text.encode(), hashlib.sha256).digest()).decode()
+
+
+def put(size):
+    params = {
+        "Action": "PutAttributes",
+        "Version": "2009-04-15",
+        "AWSAccessKeyId": "AK1",
+        "SignatureVersion": "2",
+        "SignatureMethod": "HmacSHA256",
+        "Timestamp": "2010-01-01T00:00:00Z",
+        "DomainName": "books",
+        "ItemName": "i1",
+    }
+    for number in range(size):
+        params["Attribute.%d.Name" % number] = "author %d" % number
+        params["Attribute.%d.Value" % number] = "Jane Austen, volume %d" % number
+    params["Signature"] = signature_of(text_to_sign(params))
+    return "&".join(escape(name) + "=" + escape(value) for name, value in params.items())
+
+
+def is_signed(params):
+    return hmac.compare_digest(params["Signature"], signature_of(text_to_sign(params)))
+
+
+def rate_of(call):
+    """The greatest rate per second of five runs of about 0.2 s each."""
+    greatest = 0.0
+    for _ in range(5):
+        calls = 0
+        start = time.perf_counter()
+        while time.perf_counter() - start < 0.2:
+            for _ in range(10):
+                call()
+            calls += 10
+        greatest = max(greatest, calls / (time.perf_counter() - start))
+    return greatest
+
+
+def show(requests, rates):
+    for size, request, rate in zip(SIZES, open(requests), open(rates)):
+        params = dict(parse_qsl(request.rstrip("\n"), keep_blank_values=True))
+        text = text_to_sign(params)
+        whole = rate_of(lambda: is_signed(params))
+        alone = rate_of(lambda: signature_of(text))
+        ours = float(rate)
+        print(
+            "%d %d %.0f %.0f %.0f %.2f %.2f"
+            % (size, len(text), ours, whole, alone, ours / whole, ours / alone)
+        )
+
+
+if sys.argv[1] == "make":
+    for size in SIZES:
+        print(put(size))
+else:
+    show(sys.argv[2], sys.argv[3])
