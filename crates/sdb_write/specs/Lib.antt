@@ -1,0 +1,5 @@
+pub mod Changes
+pub mod Expectation
+pub mod ItemWrites
+pub mod Laws
+pub mod Writes
