@@ -6,7 +6,8 @@ use Rattle.sdb_tables.specs.declared.refusal.Refusal.{Refusal}
 use Rattle.sdb_tables.specs.declared.refusal.Refusal.TheVariants.{InvalidAction}
 use Rattle.sdb_action.specs.declared.action.Action.{Action}
 use Rattle.sdb_action.specs.declared.request.Request.{Request}
-use Rattle.sdb_action.specs.Asked.{action_of, asked as request_of}
+use Rattle.sdb_action.specs.Actions.{action_of}
+use Rattle.sdb_action.specs.Asked.{asked as request_of}
 use Rattle.sdb_cli.specs.Line.{asked, asked_by, is_executed, params_of, requested}
 use Rattle.sdb_cli.specs.Lines.{most_line}
 

@@ -10,7 +10,8 @@ use Rattle.sdb_tables.specs.declared.refusal.Refusal.TheVariants.{RequestTooLong
 use Rattle.sdb_action.specs.declared.action.Action.{Action}
 use Rattle.sdb_action.specs.declared.action.Action.TheVariants.{CreateDomain, DeleteDomain, ListDomains, DomainMetadata, PutAttributes, BatchPutAttributes, GetAttributes, DeleteAttributes, BatchDeleteAttributes, Select}
 use Rattle.sdb_action.specs.declared.request.Request.{Request}
-use Rattle.sdb_action.specs.Asked.{action_of, asked as request_of}
+use Rattle.sdb_action.specs.Actions.{action_of}
+use Rattle.sdb_action.specs.Asked.{asked as request_of}
 use Rattle.sdb_cli.specs.Lines.{most_line}
 
 -- name and value are UTF-8
