@@ -1,31 +1,45 @@
--- The pairs of an item, taken one after the other.
-use Rattle.std.proofs.Common.{◌≡◌, ℕ, ◌+◌, ◌<◌, ◌≤◌, List, ◌∷◌, ◌++◌, [], length, take, slice_get, not, inl, inr, Some, None, refl, sym, ◌∙◌, ap, arith, append-nil}
-use Rattle.std.proofs.lemmas.Option.{slice_get_within, get_or_from_slice_get, slice_get_cases}
-use Rattle.std.proofs.lemmas.List.{take_more, length-map}
-use Rattle.std.proofs.lemmas.List.Filters.{length-filter_both}
+-- The pairs that a get asks for, taken one after the other.
+use Rattle.std.proofs.Common.{◌≡◌, ◌≢◌, ℕ, ◌+◌, ◌<◌, ◌≤◌, List, ◌∷◌, ◌++◌, [], length, take, get_or, Bool, true, false, cond, if◌then◌else◌, refl, sym, ◌∙◌, ap, arith, append-nil, append_assoc, length-append}
+use Rattle.std.specs.Str.{bytes_eq}
+use Rattle.std.specs.List.{list_any, filter}
+use Rattle.std.proofs.lemmas.List.{take_more}
+use Rattle.std.proofs.lemmas.List.Elements.{filter-append}
 use Rattle.std.proofs.lemmas.List.Concat.{flat_map-append}
-use Rattle.sdb_domain.specs.Rows.{Rows, pairs_of, is_of}
+use Rattle.sdb_pairs.specs.declared.pair.Pair.{Pair}
 use Rattle.sdb_cli.specs.Body.{attribute, attributes}
+use Rattle.sdb_cli.specs.Gets.{is_asked, asked_pairs}
+
+-- where there is a name, a pair is asked for by its name
+pub asked-named : (names : List (List ℕ)) (pair : Pair) → names ≢ [] → is_asked names pair ≡ list_any (bytes_eq pair.name) names
+asked-named [] pair some = absurd (some refl)
+asked-named (name ∷ names) pair some = refl
+
+one_kept : (names : List (List ℕ)) (pair : Pair) (t : Bool) → is_asked names pair ≡ t → asked_pairs names (pair ∷ []) ≡ (if t then pair ∷ [] else [])
+one_kept names pair true is = rw is refl
+one_kept names pair false is = rw is refl
 
 -- one pair more
-pub attributes-step : (pairs : List (List ℕ × List ℕ)) (place : ℕ) (pair : List ℕ × List ℕ) → Some pair ≡ slice_get pairs place
-    → attributes (take (place + 1) pairs) ≡ attributes (take place pairs) ++ attribute pair
-attributes-step pairs place pair found =
-    let within = slice_get_within pairs place pair (sym found) in
-    let same = get_or_from_slice_get pairs place pair pair (sym found) in
-    let more : take (place + 1) pairs ≡ take place pairs ++ pair ∷ [] = take_more pairs place pair within ∙ ap (λ p. take place pairs ++ p ∷ []) same in
-    ap attributes more ∙ flat_map-append attribute (take place pairs) (pair ∷ []) ∙ ap (λ l. attributes (take place pairs) ++ l) (append-nil (attribute pair))
+pub asked-step : (names : List (List ℕ)) (pairs : List Pair) (i : ℕ) (pair : Pair) (t : Bool) → i < length pairs → pair ≡ get_or pairs i pair → is_asked names pair ≡ t
+    → asked_pairs names (take (i + 1) pairs) ≡ asked_pairs names (take i pairs) ++ (if t then pair ∷ [] else [])
+asked-step names pairs i pair t inside at is =
+    let more : take (i + 1) pairs ≡ take i pairs ++ pair ∷ [] = take_more pairs i pair inside ∙ ap (λ p. take i pairs ++ p ∷ []) (sym at) in
+    ap (asked_pairs names) more ∙ filter-append (is_asked names) (take i pairs) (pair ∷ []) ∙ ap (λ l. asked_pairs names (take i pairs) ++ l) (one_kept names pair t is)
 
-pub within_pairs : (pairs : List (List ℕ × List ℕ)) (place : ℕ) (pair : List ℕ × List ℕ) → Some pair ≡ slice_get pairs place → place < length pairs
-within_pairs pairs place pair found = slice_get_within pairs place pair (sym found)
+-- a pair that is asked for
+pub asked-text : (old new newer : List ℕ) (names : List (List ℕ)) (pairs : List Pair) (i : ℕ) (pair : Pair) → i < length pairs → pair ≡ get_or pairs i pair → is_asked names pair ≡ true
+    → new ≡ old ++ attributes (asked_pairs names (take i pairs)) → newer ≡ new ++ attribute pair → newer ≡ old ++ attributes (asked_pairs names (take (i + 1) pairs))
+asked-text old new newer names pairs i pair inside at is so_far appended =
+    let before = asked_pairs names (take i pairs) in
+    appended ∙ ap (λ l. l ++ attribute pair) so_far ∙ append_assoc old (attributes before) (attribute pair)
+    ∙ ap (λ l. old ++ (attributes before ++ l)) (sym (append-nil (attribute pair)))
+    ∙ ap (λ l. old ++ l) (sym (flat_map-append attribute before (pair ∷ [])))
+    ∙ ap (λ l. old ++ attributes l) (sym (asked-step names pairs i pair true inside at is))
 
--- no pair is left
-pub attributes-end : (pairs : List (List ℕ × List ℕ)) (place : ℕ) → place ≤ length pairs → None ≡ slice_get pairs place → place ≡ length pairs
-attributes-end pairs place within none =
-    elim (slice_get_cases pairs place).1 [ inl h ↦ (let found = h.2 in cc) | inr h ↦ omega (arith, h.0) ]
+pub asked-count : (names : List (List ℕ)) (pairs : List Pair) (i count : ℕ) (pair : Pair) → i < length pairs → pair ≡ get_or pairs i pair → is_asked names pair ≡ true
+    → count ≡ length (asked_pairs names (take i pairs)) → count + 1 ≡ length (asked_pairs names (take (i + 1) pairs))
+asked-count names pairs i count pair inside at is so_far =
+    omega (arith, so_far, ap length (asked-step names pairs i pair true inside at is), length-append (asked_pairs names (take i pairs)) (pair ∷ []))
 
--- an item has no more pairs than there are rows
-pub pairs_of-few : (rows : Rows) (account : ℕ) (domain item : List ℕ) → length (pairs_of rows account domain item) ≤ length rows.pairs
-pairs_of-few rows account domain item =
-    let both = length-filter_both (is_of account domain item) (λ row. not (is_of account domain item row)) (λ row. refl) rows.pairs in
-    simp length-map (omega (arith, both))
+pub asked-skip : (names : List (List ℕ)) (pairs : List Pair) (i : ℕ) (pair : Pair) → i < length pairs → pair ≡ get_or pairs i pair → is_asked names pair ≡ false
+    → asked_pairs names (take (i + 1) pairs) ≡ asked_pairs names (take i pairs)
+asked-skip names pairs i pair inside at is = asked-step names pairs i pair false inside at is ∙ append-nil (asked_pairs names (take i pairs))

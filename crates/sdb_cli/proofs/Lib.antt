@@ -1,6 +1,9 @@
+pub mod AskedLemmas
 pub mod DigitsLemmas
 pub mod EscapeLemmas
+pub mod FormLemmas
 pub mod GetLemmas
 pub mod LinesLemmas
+pub mod LongLemmas
 pub mod RunsLemmas
-pub mod TextLemmas
+pub mod WrittenLemmas

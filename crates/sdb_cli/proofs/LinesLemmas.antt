@@ -62,20 +62,14 @@ split-line (b ∷ line) rest one = split-line-step b line rest (lf b) refl one (
 some_part : (bytes : List ℕ) → 0 < length (slice_split lf bytes)
 some_part bytes = omega (arith, length-slice_split lf bytes)
 
-pub whole_lines-cuts : CutsLines whole_lines
-whole_lines-cuts line rest one = ap but_last (split-line line rest one) ∙ but_last-cons line (slice_split lf rest) (some_part rest)
-
-pub lines_of-cuts : CutsLines lines_of
-lines_of-cuts line rest one = ap but_empty_last (split-line line rest one) ∙ but_empty_last-cons line (slice_split lf rest) (some_part rest)
-
 -- a line that ends: its answer, and what is told then
 pub told-line : (cut : List ℕ → List (List ℕ)) → CutsLines cut → (now next : Standing) (line rest : List ℕ) → IsOneLine now.held → IsOneLine line
-    → next ≡ record { number = now.number + 1; rows = after now.rows (now.held ++ line); held = [] }
-    → told cut now (line ++ 10 ∷ rest) ≡ answer now.number now.rows (now.held ++ line) ++ told cut next rest
+    → next ≡ record { number = now.number + 1; accounts = after now.accounts (now.held ++ line); held = [] }
+    → told cut now (line ++ 10 ∷ rest) ≡ answer now.number now.accounts (now.held ++ line) ++ told cut next rest
 told-line cut cuts now next line rest held one is =
-    ap (λ bytes. answers now.number now.rows (cut bytes)) (sym (append_assoc now.held line (10 ∷ rest)))
-    ∙ ap (answers now.number now.rows) (cuts (now.held ++ line) rest (IsOneLine-append now.held line held one))
-    ∙ ap (λ s. answer now.number now.rows (now.held ++ line) ++ told cut s rest) (sym is)
+    ap (λ bytes. answers now.number now.accounts (cut bytes)) (sym (append_assoc now.held line (10 ∷ rest)))
+    ∙ ap (answers now.number now.accounts) (cuts.first (now.held ++ line) rest (IsOneLine-append now.held line held one))
+    ∙ ap (λ s. answer now.number now.accounts (now.held ++ line) ++ told cut s rest) (sym is)
 
 split-one-step : (b : ℕ) (line : List ℕ) (t : Bool) → lf b ≡ t → IsOneLine (b ∷ line) → (IsOneLine line → slice_split lf line ≡ line ∷ []) → slice_split lf (b ∷ line) ≡ (b ∷ line) ∷ []
 split-one-step b line true e one after_line = let impossible = rw e at one in cc
@@ -89,14 +83,30 @@ last_line : (line : List ℕ) → 0 < length line → but_empty_last (line ∷ [
 last_line [] some = absurd (omega arith)
 last_line (b ∷ line) some = elim (eqb_tells (suc (length line)) 0) [ inl h ↦ absurd (omega (arith, h.1)) | inr h ↦ rw h.0 refl ]
 
+pub whole_lines-cuts : CutsLines whole_lines
+whole_lines-cuts = record {
+  first = λ line rest one. ap but_last (split-line line rest one) ∙ but_last-cons line (slice_split lf rest) (some_part rest);
+  last = inr (λ line one. ap but_last (split-one line one));
+}
+
+pub lines_of-cuts : CutsLines lines_of
+lines_of-cuts = record {
+  first = λ line rest one. ap but_empty_last (split-line line rest one) ∙ but_empty_last-cons line (slice_split lf rest) (some_part rest);
+  last = inl (λ line one some. ap but_empty_last (split-one line one) ∙ last_line line some);
+}
+
+pub some_bytes : (line : List ℕ) → (line ≡ [] → ⊥) → 0 < length line
+some_bytes [] some = absurd (some refl)
+some_bytes (b ∷ line) some = omega arith
+
 -- the last line, which has no LF
-pub told-last : (now : Standing) → IsOneLine now.held → 0 < length now.held → told lines_of now [] ≡ answer now.number now.rows (now.held ++ [])
+pub told-last : (now : Standing) → IsOneLine now.held → 0 < length now.held → told lines_of now [] ≡ answer now.number now.accounts (now.held ++ [])
 told-last now one some =
-    ap (λ bytes. answers now.number now.rows (lines_of bytes)) (append-nil now.held)
-    ∙ ap (λ parts. answers now.number now.rows (but_empty_last parts)) (split-one now.held one)
-    ∙ ap (answers now.number now.rows) (last_line now.held some)
-    ∙ append-nil (answer now.number now.rows now.held)
-    ∙ ap (answer now.number now.rows) (sym (append-nil now.held))
+    ap (λ bytes. answers now.number now.accounts (lines_of bytes)) (append-nil now.held)
+    ∙ ap (λ parts. answers now.number now.accounts (but_empty_last parts)) (split-one now.held one)
+    ∙ ap (answers now.number now.accounts) (last_line now.held some)
+    ∙ append-nil (answer now.number now.accounts now.held)
+    ∙ ap (answer now.number now.accounts) (sym (append-nil now.held))
 
 -- how far the lines of a piece are answered: what is appended and what the rest brings are what the piece brings
 pub record Fed (before now : Standing) (old new piece rest : List ℕ) : Type 0 where
@@ -107,8 +117,8 @@ pub record Fed (before now : Standing) (old new piece rest : List ℕ) : Type 0 
 -- one line more
 pub Fed-line : (before now next : Standing) (old new newer piece rest line : List ℕ) (at : ℕ) → Fed before now old new piece rest
     → at < length rest → IsOneLine (take at rest) → drop at rest ≡ 10 ∷ drop (at + 1) rest → line ≡ take at rest
-    → newer ≡ new ++ answer now.number now.rows (now.held ++ line)
-    → next ≡ record { number = now.number + 1; rows = after now.rows (now.held ++ line); held = [] }
+    → newer ≡ new ++ answer now.number now.accounts (now.held ++ line)
+    → next ≡ record { number = now.number + 1; accounts = after now.accounts (now.held ++ line); held = [] }
     → Fed before next old newer piece (drop (at + 1) rest)
 Fed-line before now next old new newer piece rest line at fed inside one ends is answered next_is =
     let whole : rest ≡ line ++ 10 ∷ drop (at + 1) rest = sym (take-append-drop at rest) ∙ ap (λ l. take at rest ++ l) ends ∙ ap (λ l. l ++ 10 ∷ drop (at + 1) rest) (sym is) in
@@ -128,5 +138,5 @@ Fed-line before now next old new newer piece rest line at fed inside one ends is
 -- a line that hasn't ended is no whole line
 pub told-none : (now : Standing) → IsOneLine now.held → told whole_lines now [] ≡ []
 told-none now one =
-    ap (λ bytes. answers now.number now.rows (whole_lines bytes)) (append-nil now.held)
-    ∙ ap (λ parts. answers now.number now.rows (but_last parts)) (split-one now.held one)
+    ap (λ bytes. answers now.number now.accounts (whole_lines bytes)) (append-nil now.held)
+    ∙ ap (λ parts. answers now.number now.accounts (but_last parts)) (split-one now.held one)

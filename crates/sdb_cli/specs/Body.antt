@@ -3,8 +3,9 @@ use Rattle.std.specs.Prelude.{ℕ, ◌/◌, ◌^◌, List, ◌∷◌, ◌++◌, 
 use Rattle.std.specs.List.{flat_map}
 use Rattle.sdb_cli.specs.Digits.{padded}
 use Rattle.sdb_cli.specs.Escape.{element}
-use Rattle.sdb_cli.specs.declared.refusal.Refusal.{Refusal}
-use Rattle.sdb_cli.specs.declared.refusal.Refusal.TheVariants.{NotYetImplemented, InvalidParameterValue, MissingParameter, NoSuchDomain}
+use Rattle.sdb_pairs.specs.declared.pair.Pair.{Pair}
+use Rattle.sdb_tables.specs.declared.refusal.Refusal.{Refusal}
+use Rattle.sdb_tables.specs.Faults.{fault_of}
 
 unfoldable pub head : List ℕ
 head = codes "<?xml version=\"1.0\"?>\n<"
@@ -78,29 +79,17 @@ unfoldable pub value_tag : List ℕ
 value_tag = codes "Value"
 
 -- a pair of an item
-abbrev pub attribute : (List ℕ × List ℕ) → List ℕ
-attribute pair = attribute_open ++ element name_tag pair.0 ++ element value_tag pair.1 ++ attribute_close
+abbrev pub attribute : Pair → List ℕ
+attribute pair = attribute_open ++ element name_tag pair.name ++ element value_tag pair.value ++ attribute_close
 
 -- the pairs of an item, in their order
-abbrev pub attributes : List (List ℕ × List ℕ) → List ℕ
+abbrev pub attributes : List Pair → List ℕ
 attributes pairs = flat_map attribute pairs
 
 -- the result of a get
-abbrev pub get_result : List (List ℕ × List ℕ) → List ℕ
+abbrev pub get_result : List Pair → List ℕ
 get_result pairs = get_result_open ++ attributes pairs ++ get_result_close
 
-unfoldable pub code_of : Refusal → List ℕ
-code_of NotYetImplemented = codes "NotYetImplemented"
-code_of InvalidParameterValue = codes "InvalidParameterValue"
-code_of MissingParameter = codes "MissingParameter"
-code_of NoSuchDomain = codes "NoSuchDomain"
-
-unfoldable pub message_of : Refusal → List ℕ
-message_of NotYetImplemented = codes "The request is not built yet."
-message_of InvalidParameterValue = codes "The value of a parameter is invalid."
-message_of MissingParameter = codes "A required parameter is missing."
-message_of NoSuchDomain = codes "The specified domain does not exist."
-
--- the body of a refused request
+-- the body of a refused request: the code and the message of its row
 abbrev pub refused : Refusal → ℕ → List ℕ
-refused refusal number = error_head ++ code_of refusal ++ error_message ++ message_of refusal ++ error_usage ++ request_id number ++ error_tail
+refused refusal number = error_head ++ (fault_of refusal).code ++ error_message ++ (fault_of refusal).message ++ error_usage ++ request_id number ++ error_tail

@@ -1,10 +1,11 @@
+pub mod Actions
 pub mod Body
 pub mod Digits
 pub mod Escape
+pub mod Gets
 pub mod Line
 pub mod Lines
 pub mod Plain
-pub mod Requests
 pub mod Standing
 pub mod Runs
 pub mod Statuses

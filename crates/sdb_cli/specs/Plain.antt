@@ -1,67 +1,116 @@
 -- What the lines of an input are answered.
-use Rattle.std.specs.Prelude.{ℕ, ◌+◌, ◌-◌, ◌*◌, ◌^◌, min, List, [], ◌∷◌, ◌++◌, length, if◌then◌else◌, Result, Ok, Err}
-use Rattle.sdb_domain.specs.Rows.{Rows, no_rows, has_domain, with_domain, with_pair, pairs_of}
-use Rattle.sdb_cli.specs.Lines.{lines_of, whole_lines}
-use Rattle.sdb_cli.specs.Line.{Asked, create_domain, put_attributes, get_attributes, create_domain_action, put_action, get_action, asked}
+use Rattle.std.specs.Prelude.{ℕ, ◌+◌, ◌-◌, ◌*◌, ◌^◌, min, List, [], ◌∷◌, ◌++◌, length, Option, Some, None, Result, Ok, Err}
+use Rattle.sdb_pairs.specs.declared.pair.Pair.{Pair}
+use Rattle.sdb_pairs.specs.Accounts.{DomainEntries, ItemEntries, items_of, pairs_at}
+use Rattle.sdb_tables.specs.declared.refusal.Refusal.{Refusal}
+use Rattle.sdb_tables.specs.declared.refusal.Refusal.TheVariants.{InvalidAction, NoSuchDomain}
+use Rattle.sdb_action.specs.declared.request.Request.{Request}
+use Rattle.sdb_action.specs.declared.request.Request.TheVariants.{CreateDomain, DeleteDomain, ListDomains, DomainMetadata, Put, BatchPut, Get, Delete, BatchDelete, Select}
+use Rattle.sdb_write.specs.Writes.{write}
+use Rattle.sdb_cli.specs.Actions.{create_domain_action, delete_domain_action, put_action, get_action, delete_action}
 use Rattle.sdb_cli.specs.Body.{success, refused, get_result}
-use Rattle.sdb_cli.specs.declared.refusal.Refusal.{Refusal}
-use Rattle.sdb_cli.specs.declared.refusal.Refusal.TheVariants.{NoSuchDomain}
+use Rattle.sdb_cli.specs.Gets.{asked_pairs, get_units}
+use Rattle.sdb_cli.specs.Line.{asked}
+use Rattle.sdb_cli.specs.Lines.{lines_of, whole_lines}
 
 -- the account for which lines are answered
 abbrev pub account : ℕ
 account = 1
 
--- the units of a get: a thousand, and fifty for each pair, as far as 64 bits hold them
-abbrev pub get_units : ℕ → ℕ
-get_units pairs = min (1000 + min (50 * pairs) (2 ^ 64 - 1)) (2 ^ 64 - 1)
+-- the units of a write to a domain's items: two thousand, and two hundred for each attribute, as far as 64 bits hold them
+abbrev pub write_units : ℕ → ℕ
+write_units attributes = min (2000 + min (200 * attributes) (2 ^ 64 - 1)) (2 ^ 64 - 1)
 
-abbrev pub reply_to : ℕ → Rows → Result Asked Refusal → List ℕ
-reply_to number rows (Ok (create_domain domain)) = success create_domain_action [] number 50000
-reply_to number rows (Ok (put_attributes domain item name value)) =
-    if has_domain rows account domain then success put_action [] number 2200 else refused NoSuchDomain number
-reply_to number rows (Ok (get_attributes domain item)) =
-    let pairs = pairs_of rows account domain item in
-    if has_domain rows account domain then success get_action (get_result pairs) number (get_units (length pairs)) else refused NoSuchDomain number
-reply_to number rows (Err refusal) = refused refusal number
+-- the units of a write to a domain
+abbrev pub domain_units : ℕ
+domain_units = 50000
 
-abbrev pub after_asked : Rows → Result Asked Refusal → Rows
-after_asked rows (Ok (create_domain domain)) = with_domain rows account domain
-after_asked rows (Ok (put_attributes domain item name value)) =
-    if has_domain rows account domain then with_pair rows (record { account = account; domain = domain; item = item; name = name; value = value }) else rows
-after_asked rows (Ok (get_attributes domain item)) = rows
-after_asked rows (Err refusal) = rows
+-- the body that answers a write
+abbrev pub reply_written : (action : List ℕ) (number units : ℕ) → Result DomainEntries Refusal → List ℕ
+reply_written action number units (Ok accounts) = success action [] number units
+reply_written action number units (Err refusal) = refused refusal number
+
+-- the body that answers a get of these pairs
+abbrev pub reply_pairs : ℕ → List Pair → List ℕ
+reply_pairs number pairs = success get_action (get_result pairs) number (get_units (length pairs))
+
+-- the body that answers a get of an item of the domain
+abbrev pub reply_got : ℕ → Option ItemEntries → List ℕ → List (List ℕ) → List ℕ
+reply_got number None item names = refused NoSuchDomain number
+reply_got number (Some items) item names = reply_pairs number (asked_pairs names (pairs_at items item))
+
+-- the body that answers a request
+abbrev pub reply : ℕ → DomainEntries → Request → List ℕ
+reply number accounts (CreateDomain domain) = reply_written create_domain_action number domain_units (write accounts account (CreateDomain domain))
+reply number accounts (DeleteDomain domain) = reply_written delete_domain_action number domain_units (write accounts account (DeleteDomain domain))
+reply number accounts (Put domain item expected) = reply_written put_action number (write_units (length item.pairs)) (write accounts account (Put domain item expected))
+reply number accounts (Delete domain item expected) = reply_written delete_action number (write_units (length item.parts)) (write accounts account (Delete domain item expected))
+reply number accounts (Get domain item names) = reply_got number (items_of accounts account domain) item names
+reply number accounts (ListDomains most token) = refused InvalidAction number
+reply number accounts (DomainMetadata domain) = refused InvalidAction number
+reply number accounts (BatchPut domain items) = refused InvalidAction number
+reply number accounts (BatchDelete domain items) = refused InvalidAction number
+reply number accounts (Select expression token) = refused InvalidAction number
+
+-- the accounts once a write is done, or as they were where it is refused
+abbrev pub after_written : DomainEntries → Result DomainEntries Refusal → DomainEntries
+after_written accounts (Ok new) = new
+after_written accounts (Err refusal) = accounts
+
+-- the accounts once the request is answered
+abbrev pub after_request : DomainEntries → Request → DomainEntries
+after_request accounts (CreateDomain domain) = after_written accounts (write accounts account (CreateDomain domain))
+after_request accounts (DeleteDomain domain) = after_written accounts (write accounts account (DeleteDomain domain))
+after_request accounts (Put domain item expected) = after_written accounts (write accounts account (Put domain item expected))
+after_request accounts (Delete domain item expected) = after_written accounts (write accounts account (Delete domain item expected))
+after_request accounts (Get domain item names) = accounts
+after_request accounts (ListDomains most token) = accounts
+after_request accounts (DomainMetadata domain) = accounts
+after_request accounts (BatchPut domain items) = accounts
+after_request accounts (BatchDelete domain items) = accounts
+after_request accounts (Select expression token) = accounts
+
+-- the body that answers a line of which this is asked
+abbrev pub reply_to : ℕ → DomainEntries → Result Request Refusal → List ℕ
+reply_to number accounts (Ok request) = reply number accounts request
+reply_to number accounts (Err refusal) = refused refusal number
+
+-- the accounts once the line is answered
+abbrev pub after_asked : DomainEntries → Result Request Refusal → DomainEntries
+after_asked accounts (Ok request) = after_request accounts request
+after_asked accounts (Err refusal) = accounts
 
 -- the body that answers a line, and the LF after it
-unfoldable pub answer : ℕ → Rows → List ℕ → List ℕ
-answer number rows line = reply_to number rows (asked line) ++ 10 ∷ []
+unfoldable pub answer : ℕ → DomainEntries → List ℕ → List ℕ
+answer number accounts line = reply_to number accounts (asked line) ++ 10 ∷ []
 
--- the rows once the line is answered
-unfoldable pub after : Rows → List ℕ → Rows
-after rows line = after_asked rows (asked line)
+-- the accounts once the line is answered
+unfoldable pub after : DomainEntries → List ℕ → DomainEntries
+after accounts line = after_asked accounts (asked line)
 
 -- the answers to lines, of which the first has that number
-abbrev pub answers : ℕ → Rows → List (List ℕ) → List ℕ
-answers number rows [] = []
-answers number rows (line ∷ lines) = answer number rows line ++ answers (number + 1) (after rows line) lines
+abbrev pub answers : ℕ → DomainEntries → List (List ℕ) → List ℕ
+answers number accounts [] = []
+answers number accounts (line ∷ lines) = answer number accounts line ++ answers (number + 1) (after accounts line) lines
 
 -- the answers to an input, over accounts that begin empty
 abbrev pub plain : List ℕ → List ℕ
-plain bytes = answers 1 no_rows (lines_of bytes)
+plain bytes = answers 1 [] (lines_of bytes)
 
 -- the answers to the lines that an input has whole so far
 abbrev pub plain_whole : List ℕ → List ℕ
-plain_whole bytes = answers 1 no_rows (whole_lines bytes)
+plain_whole bytes = answers 1 [] (whole_lines bytes)
 
--- where a session stands: the number of the next line, the rows, and the bytes of a line that hasn't ended
+-- where a session stands: the number of the next line, the accounts, and what has come of a line that hasn't ended
 pub record Standing : Type 0 where
   pub number : ℕ
-  pub rows : Rows
+  pub accounts : DomainEntries
   pub held : List ℕ
 
--- a session begins without rows
+-- a session begins without accounts
 abbrev pub beginning : Standing
-beginning = record { number = 1; rows = no_rows; held = [] }
+beginning = record { number = 1; accounts = []; held = [] }
 
 -- the answers that the rest of the input brings
 abbrev pub told : (List ℕ → List (List ℕ)) → Standing → List ℕ → List ℕ
-told cut standing rest = answers standing.number standing.rows (cut (standing.held ++ rest))
+told cut standing rest = answers standing.number standing.accounts (cut (standing.held ++ rest))

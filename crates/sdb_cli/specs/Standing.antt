@@ -3,4 +3,4 @@ use Rattle.sdb_cli.specs.Plain.{Standing}
 use Rattle.sdb_cli.specs.declared.session.Session.{Session}
 
 abbrev pub standing : Session → Standing
-standing s = record { number = s.number; rows = s.accounts; held = s.held.items }
+standing s = record { number = s.number; accounts = s.accounts; held = s.held }

@@ -1,19 +1,29 @@
 // One line answered over the accounts.
-ghost use Rattle.std.specs.Prelude.{◌≡◌, ◌++◌, Ok, OnOk};
-ghost use Rattle.sdb_cli.specs.Line.{create_domain, put_attributes, get_attributes};
-ghost use Rattle.sdb_cli.specs.Plain.{answer as answer_to, after, reply_to, after_asked};
-ghost use Rattle.sdb_cli.specs.Requests.{asked_of};
+ghost use Rattle.std.specs.Prelude.{◌≡◌, ◌∷◌, [], ◌++◌, OnOk};
+ghost use Rattle.sdb_cli.specs.Plain.{account, after, after_request, after_written, answer as answer_to, reply, reply_got, reply_written, write_units as units_of_write};
+ghost use Rattle.sdb_cli.specs.Body.{refused};
+ghost use Rattle.sdb_pairs.specs.Accounts.{items_of, pairs_at};
+ghost use Rattle.sdb_write.specs.Writes.{IsSingleWrite, write as write_to};
 
 use crate::body::{append_refused, append_success};
 use crate::get::append_get;
-use crate::line::{ItemPair, Request, read_line};
-use crate::refusal::Refusal;
-use sdb_base::{AccountId, Bytes, OutOfMemory, Text};
-use sdb_domain::Accounts;
+use crate::line::read_line;
+use sdb_action::Request;
+use sdb_base::{AccountId, Bytes, OutOfMemory, Steps, Text, Texts};
+use sdb_domain::{Accounts, Domain};
+use sdb_pairs::Pair;
+use sdb_tables::Refusal;
+use sdb_write::decide;
 use std::alloc::Global;
 
 // The account for which lines are answered.
 const ACCOUNT: AccountId = AccountId(1);
+
+// The units of a write to a domain.
+const DOMAIN_UNITS: u64 = 50_000;
+
+// Counts the items that gets look up.
+struct Looked;
 
 /// Executes the request of a line, whose number is given, and appends its answer and an LF.
 #[tactic(auto, using(std::proofs::Common::append_assoc), unfolding(crate::specs::Plain::answer, crate::specs::Plain::after))]
@@ -27,10 +37,21 @@ pub(crate) fn answer(
     ensures accounts { OnOk result (accounts.new ≡ after accounts.old line.now) }
     ensures bytes { OnOk result (out.new.bytes ≡ out.old.bytes ++ answer_to number accounts.old line.now) }
 {
-    match read_line(line) {
-        Ok(request) => execute(alloc, accounts, number, request, out)?,
+    match read_line(alloc, line) {
+        Ok(request) => execute(alloc, accounts, number, &request, out)?,
+        Err(Refusal::OutOfMemory) => return Err(OutOfMemory),
         Err(refusal) => append_refused(out, refusal, number)?,
     }
+    out.append(b"\n")?;
+    Ok(())
+}
+
+/// Appends the answer to a line that is too long, and an LF.
+#[tactic(auto, using(std::proofs::Common::append_assoc))]
+pub(crate) fn refuse_long_line(number: u64, out: &mut Bytes) -> Result<(), OutOfMemory>
+    ensures { OnOk result (out.new.bytes ≡ out.old.bytes ++ (refused Refusal.RequestTooLong number ++ 10 ∷ [])) }
+{
+    append_refused(out, Refusal::RequestTooLong, number)?;
     out.append(b"\n")?;
     Ok(())
 }
@@ -39,73 +60,111 @@ fn execute(
     alloc: Global,
     accounts: &mut Accounts,
     number: u64,
-    request: Request<'_>,
+    request: &Request,
     out: &mut Bytes,
 ) -> Result<(), OutOfMemory>
-    ensures accounts { OnOk result (accounts.new ≡ after_asked accounts.old (Ok (asked_of request.entry))) }
-    ensures bytes { OnOk result (out.new.bytes ≡ out.old.bytes ++ reply_to number accounts.old (Ok (asked_of request.entry))) }
+    ensures accounts { OnOk result (accounts.new ≡ after_request accounts.old request.now) }
+    ensures bytes { OnOk result (out.new.bytes ≡ out.old.bytes ++ reply number accounts.old request.now) }
 {
     match request {
-        Request::CreateDomain { domain } => create(alloc, accounts, number, domain, out),
-        Request::PutAttributes { domain, pair } => put(alloc, accounts, number, domain, pair, out),
-        Request::GetAttributes { domain, item } => get(alloc, accounts, number, domain, item, out),
+        Request::CreateDomain(_) => write(
+            alloc,
+            accounts,
+            request,
+            "CreateDomain",
+            number,
+            DOMAIN_UNITS,
+            out,
+        ),
+        Request::DeleteDomain(_) => write(
+            alloc,
+            accounts,
+            request,
+            "DeleteDomain",
+            number,
+            DOMAIN_UNITS,
+            out,
+        ),
+        Request::Put(_, item, _) => write(
+            alloc,
+            accounts,
+            request,
+            "PutAttributes",
+            number,
+            write_units(item.pairs.len()),
+            out,
+        ),
+        Request::Delete(_, item, _) => write(
+            alloc,
+            accounts,
+            request,
+            "DeleteAttributes",
+            number,
+            write_units(item.parts.len()),
+            out,
+        ),
+        Request::Get(domain, item, names) => get(alloc, accounts, domain, item, names, number, out),
+        Request::ListDomains(_, _)
+        | Request::DomainMetadata(_)
+        | Request::BatchPut(_, _)
+        | Request::BatchDelete(_, _)
+        | Request::Select(_, _) => append_refused(out, Refusal::InvalidAction, number),
     }
 }
 
-#[tactic(auto, unfolding(crate::specs::Line::create_domain_action))]
-fn create(
-    alloc: Global,
-    accounts: &mut Accounts,
-    number: u64,
-    domain: &str,
-    out: &mut Bytes,
-) -> Result<(), OutOfMemory>
-    ensures accounts { OnOk result (accounts.new ≡ after_asked accounts.old (Ok (create_domain domain.now))) }
-    ensures bytes { OnOk result (out.new.bytes ≡ out.old.bytes ++ reply_to number accounts.old (Ok (create_domain domain.now))) }
+// Two thousand units, and two hundred for each attribute.
+fn write_units(attributes: usize) -> u64
+    ensures { result ≡ units_of_write attributes }
 {
-    let name = Text::from_str(alloc, domain)?;
-    accounts.make_domain(ACCOUNT, &name)?;
-    append_success(out, "CreateDomain", number, 50_000)
+    2_000_u64.saturating_add(200_u64.saturating_mul(attributes as u64))
 }
 
-// Adds a pair to an item, and answers.
-#[tactic(auto, unfolding(crate::specs::Line::put_action))]
-fn put(
+// Decides a write, applies its changes, and answers.
+fn write(
     alloc: Global,
     accounts: &mut Accounts,
+    request: &Request,
+    action: &str,
     number: u64,
-    domain: &str,
-    pair: ItemPair<'_>,
+    units: u64,
     out: &mut Bytes,
 ) -> Result<(), OutOfMemory>
-    ensures accounts { OnOk result (accounts.new ≡ after_asked accounts.old (Ok (put_attributes domain.now pair.entry.item.now pair.entry.name.now pair.entry.value.now))) }
-    ensures bytes { OnOk result (out.new.bytes ≡ out.old.bytes ++ reply_to number accounts.old (Ok (put_attributes domain.now pair.entry.item.now pair.entry.name.now pair.entry.value.now))) }
+    requires { IsSingleWrite request.now }
+    ensures accounts { OnOk result (accounts.new ≡ after_written accounts.old (write_to accounts.old account request.now)) }
+    ensures bytes { OnOk result (out.new.bytes ≡ out.old.bytes ++ reply_written action.now number units (write_to accounts.old account request.now)) }
 {
-    let domain = Text::from_str(alloc, domain)?;
-    if !accounts.has_domain(ACCOUNT, &domain) {
-        return append_refused(out, Refusal::NoSuchDomain, number);
+    match decide(alloc, accounts, ACCOUNT, request) {
+        Ok(changes) => accounts.apply(&changes)?,
+        Err(Refusal::OutOfMemory) => return Err(OutOfMemory),
+        Err(refusal) => return append_refused(out, refusal, number),
     }
-    let item = Text::from_str(alloc, pair.item)?;
-    let name = Text::from_str(alloc, pair.name)?;
-    let value = Text::from_str(alloc, pair.value)?;
-    accounts.add_pair(ACCOUNT, &domain, &item, &name, &value)?;
-    append_success(out, "PutAttributes", number, 2_200)
+    append_success(out, action, number, units)
 }
 
 fn get(
     alloc: Global,
     accounts: &Accounts,
+    domain: &Text,
+    item: &Text,
+    names: &Texts,
     number: u64,
-    domain: &str,
-    item: &str,
     out: &mut Bytes,
 ) -> Result<(), OutOfMemory>
-    ensures { OnOk result (out.new.bytes ≡ out.old.bytes ++ reply_to number accounts.now (Ok (get_attributes domain.now item.now))) }
+    ensures { OnOk result (out.new.bytes ≡ out.old.bytes ++ reply_got number (items_of accounts.now account domain.now) item.now names.now) }
 {
-    let domain = Text::from_str(alloc, domain)?;
-    if !accounts.has_domain(ACCOUNT, &domain) {
+    let Some(domain) = accounts.domain(ACCOUNT, domain) else {
         return append_refused(out, Refusal::NoSuchDomain, number);
+    };
+    append_get(alloc, pairs_of(domain, item), names, number, out)
+}
+
+// The pairs of an item, none where it isn't there.
+fn pairs_of<'a>(domain: &'a Domain, name: &Text) -> &'a [Pair]
+    ensures { result.now ≡ pairs_at domain.now name.now }
+{
+    let mut looked: Steps<Looked> = Steps::new();
+    match domain.item(name, &mut looked) {
+        Some(item) => item.pairs(),
+        None => &[],
     }
-    let item = Text::from_str(alloc, item)?;
-    append_get(alloc, accounts, number, &domain, &item, out)
 }

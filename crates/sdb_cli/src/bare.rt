@@ -46,7 +46,7 @@ fn answer_input<T: Source, K: Sink>(
 ) -> Status
     requires room { 0 < length buffer.old }
     requires numbered { session.old.number + limit + 1 < 2 ^ 64 }
-    requires held { IsOneLine session.old.held.items }
+    requires held { IsOneLine session.old.held }
     ensures ends { Ends result limit (standing session.old) (T.left input.old) (T.left input.new) (K.written output.old) (K.written output.new) }
     ensures read { result ≡ Status.ReadFault → Rose (T.faults input.old) (T.faults input.new) }
     ensures write { result ≡ Status.WriteFault → Rose (K.faults output.old) (K.faults output.new) }
@@ -73,7 +73,7 @@ fn turn<T: Source, K: Sink>(
 ) -> Result<usize, Status>
     requires room { 0 < length buffer.old }
     requires numbered { session.old.number + length buffer.old < 2 ^ 64 }
-    requires held { IsOneLine session.old.held.items }
+    requires held { IsOneLine session.old.held }
     ensures going { IfOk result (λ count. (count ≤ length buffer.old)
         × Going (standing session.old) (standing session.new) (T.left input.old) (T.left input.new) (K.written output.old) (K.written output.new) count
         × (count ≡ 0 → IsAtEnd (T.left input.new))) }
@@ -99,7 +99,7 @@ fn turn<T: Source, K: Sink>(
 // Writes the answer to the last line, where the input ended in it.
 fn finish<K: Sink>(alloc: Global, session: &mut Session, output: &mut K) -> Status
     requires numbered { session.old.number < 2 ^ 64 - 1 }
-    requires held { IsOneLine session.old.held.items }
+    requires held { IsOneLine session.old.held }
     ensures finishes { Finishes result (standing session.old) (K.written output.old) (K.written output.new) }
     ensures write { result ≡ Status.WriteFault → Rose (K.faults output.old) (K.faults output.new) }
 {

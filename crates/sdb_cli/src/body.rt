@@ -3,10 +3,10 @@ ghost use Rattle.std.specs.Prelude.{◌≡◌, [], ◌++◌, OnOk};
 ghost use Rattle.sdb_cli.specs.Body.{opening, request_id, box_usage, ending, success, refused};
 
 use crate::digits::write_padded;
-use crate::refusal::Refusal;
 use crate::texts;
 use itoa::Buffer;
 use sdb_base::{Bytes, OutOfMemory};
+use sdb_tables::{Refusal, fault_row};
 
 // A unit is 10^-10 of an hour.
 const UNITS_AN_HOUR: u64 = 10_000_000_000;
@@ -66,10 +66,11 @@ pub(crate) fn append_refused(
 ) -> Result<(), OutOfMemory>
     ensures { OnOk result (out.new.bytes ≡ out.old.bytes ++ refused refusal number) }
 {
+    let row = fault_row(&refusal);
     out.append(texts::error_head())?;
-    out.append(refusal.code().as_bytes())?;
+    out.append(row.code.as_bytes())?;
     out.append(texts::error_message())?;
-    out.append(refusal.message().as_bytes())?;
+    out.append(row.message.as_bytes())?;
     out.append(texts::error_usage())?;
     append_request_id(out, number)?;
     out.append(texts::error_tail())?;

@@ -1,33 +1,32 @@
 // The answer of a get.
 ghost use Rattle.std.specs.Prelude.{◌≡◌, ◌++◌, length, IfOk, OnOk};
-ghost use Rattle.sdb_domain.specs.Rows.{pairs_of};
 ghost use Rattle.sdb_cli.specs.Body.{attribute, attributes, get_result, success};
-ghost use Rattle.sdb_cli.specs.Line.{get_action};
-ghost use Rattle.sdb_cli.specs.Plain.{account, get_units as units_of_get};
+ghost use Rattle.sdb_cli.specs.Gets.{Finds, asked_pairs, is_asked as asks_for, get_units as units_of_get};
+ghost use Rattle.sdb_cli.specs.Actions.{get_action};
 
 use crate::body::{append_ending, append_opening};
 use crate::escape::append_element;
 use crate::texts;
-use sdb_base::{AccountId, Bytes, OutOfMemory, Text};
-use sdb_domain::Accounts;
+use sdb_base::{Bytes, OutOfMemory, Texts};
+use sdb_pairs::Pair;
 use std::alloc::Global;
+use std::collections::BTreeSet;
 
-/// Appends the answer of a get: every pair of the item, in rising order.
-#[tactic(auto, using(std::proofs::Common::append_assoc), unfolding(crate::specs::Line::get_action))]
+/// Appends the answer of a get: the pairs of the names, or all where there is no name, in their order.
+#[tactic(auto, using(std::proofs::Common::append_assoc), unfolding(crate::specs::Actions::get_action))]
 pub(crate) fn append_get(
     alloc: Global,
-    accounts: &Accounts,
+    pairs: &[Pair],
+    names: &Texts,
     number: u64,
-    domain: &Text,
-    item: &Text,
     out: &mut Bytes,
 ) -> Result<(), OutOfMemory>
     ensures { OnOk result (out.new.bytes ≡ out.old.bytes ++
-        success get_action (get_result (pairs_of accounts.now account domain.now item.now)) number (units_of_get (length (pairs_of accounts.now account domain.now item.now)))) }
+        success get_action (get_result (asked_pairs names.now pairs.now)) number (units_of_get (length (asked_pairs names.now pairs.now)))) }
 {
     append_opening(out, "GetAttributes")?;
-    let pairs = append_result(alloc, accounts, domain, item, out)?;
-    append_ending(out, "GetAttributes", number, get_units(pairs))?;
+    let count = append_result(alloc, pairs, names, out)?;
+    append_ending(out, "GetAttributes", number, get_units(count))?;
     Ok(())
 }
 
@@ -38,54 +37,68 @@ fn get_units(pairs: usize) -> u64
     1_000_u64.saturating_add(50_u64.saturating_mul(pairs as u64))
 }
 
+// Appends the result, and gives the number of its pairs.
 #[tactic(auto, using(std::proofs::Common::append_assoc))]
 fn append_result(
     alloc: Global,
-    accounts: &Accounts,
-    domain: &Text,
-    item: &Text,
+    pairs: &[Pair],
+    names: &Texts,
     out: &mut Bytes,
 ) -> Result<usize, OutOfMemory>
-    ensures count { IfOk result (λ count. count ≡ length (pairs_of accounts.now account domain.now item.now)) }
-    ensures bytes { OnOk result (out.new.bytes ≡ out.old.bytes ++ get_result (pairs_of accounts.now account domain.now item.now)) }
+    ensures count { IfOk result (λ count. count ≡ length (asked_pairs names.now pairs.now)) }
+    ensures bytes { OnOk result (out.new.bytes ≡ out.old.bytes ++ get_result (asked_pairs names.now pairs.now)) }
 {
     out.append(texts::get_result_open())?;
-    let count = append_attributes(alloc, accounts, domain, item, out)?;
+    let count = append_attributes(alloc, pairs, names, out)?;
     out.append(texts::get_result_close())?;
     Ok(count)
 }
 
-// Appends the pairs, and gives their number.
 fn append_attributes(
     alloc: Global,
-    accounts: &Accounts,
-    domain: &Text,
-    item: &Text,
+    pairs: &[Pair],
+    names: &Texts,
     out: &mut Bytes,
 ) -> Result<usize, OutOfMemory>
-    ensures count { IfOk result (λ count. count ≡ length (pairs_of accounts.now account domain.now item.now)) }
-    ensures bytes { OnOk result (out.new.bytes ≡ out.old.bytes ++ attributes (pairs_of accounts.now account domain.now item.now)) }
+    ensures count { IfOk result (λ count. count ≡ length (asked_pairs names.now pairs.now)) }
+    ensures bytes { OnOk result (out.new.bytes ≡ out.old.bytes ++ attributes (asked_pairs names.now pairs.now)) }
 {
-    let mut place: usize = 0;
-    'pairs: while let Some((name, value)) = accounts.row(AccountId(1), domain, item, place) {
-        append_attribute(alloc, out, name.as_str(), value.as_str())?;
-        place += 1;
+    let set = set_of(alloc, names)?;
+    let mut count = 0;
+    for pair in pairs {
+        if is_asked(names, &set, pair) {
+            append_attribute(alloc, out, pair)?;
+            count += 1;
+        }
     }
-    Ok(place)
+    Ok(count)
+}
+
+// The names in order, so that none is compared with all of them.
+fn set_of(alloc: Global, names: &Texts) -> Result<BTreeSet<&str>, OutOfMemory>
+    ensures { IfOk result (λ set. Finds set.keys names.now) }
+{
+    let mut set = BTreeSet::new(alloc);
+    for name in names.as_slice() {
+        set.insert(name.as_str())?;
+    }
+    Ok(set)
+}
+
+fn is_asked(names: &Texts, set: &BTreeSet<&str>, pair: &Pair) -> bool
+    requires { Finds set.now.keys names.now }
+    ensures { result ≡ asks_for names.now pair.now }
+{
+    names.is_empty() || set.contains(pair.name.as_str())
 }
 
 #[tactic(auto, using(std::proofs::Common::append_assoc), unfolding(crate::specs::Body::name_tag, crate::specs::Body::value_tag))]
-fn append_attribute(
-    alloc: Global,
-    out: &mut Bytes,
-    name: &str,
-    value: &str,
-) -> Result<(), OutOfMemory>
-    ensures { OnOk result (out.new.bytes ≡ out.old.bytes ++ attribute (name.now, value.now)) }
+fn append_attribute(alloc: Global, out: &mut Bytes, pair: &Pair) -> Result<(), OutOfMemory>
+    ensures { OnOk result (out.new.bytes ≡ out.old.bytes ++ attribute pair.now) }
 {
     out.append(texts::attribute_open())?;
-    append_element(alloc, out, "Name", name)?;
-    append_element(alloc, out, "Value", value)?;
+    append_element(alloc, out, "Name", pair.name.as_str())?;
+    append_element(alloc, out, "Value", pair.value.as_str())?;
     out.append(texts::attribute_close())?;
     Ok(())
 }

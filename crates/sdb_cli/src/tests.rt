@@ -162,28 +162,210 @@ fn pieces_of_one_byte_give_the_same_answers(rt: HostRuntime) -> Result<(), Fail>
     Ok(())
 }
 
+// The code of an answer's refusal, or `done`.
+fn code_of(answer: &str) -> &str {
+    match answer.split_once("<Code>") {
+        Some((_, rest)) => match rest.split_once("</Code>") {
+            Some((code, _)) => code,
+            None => rest,
+        },
+        None => "done",
+    }
+}
+
+// The last of the answers to these lines.
+fn last_answer(alloc: Global, lines: &str) -> Result<String, Fail> {
+    let output = answered(alloc, lines.as_bytes())?;
+    let text = std::str::from_utf8(output.written())?;
+    let (_, answer) = text.rsplit_once("<?xml").ok_or("no answer")?;
+    Ok(String::from_str(alloc, answer)?)
+}
+
 #[test]
-fn refusals_have_their_codes_and_messages(rt: HostRuntime) -> Result<(), Fail> {
-    let missing =
-        b"<?xml version=\"1.0\"?>\n<Response><Errors><Error><Code>MissingParameter</Code><Message>A required parameter is missing.</Message><BoxUsage>0.0000001000</BoxUsage></Error></Errors><RequestID>00000000-0000-0000-0000-000000000001</RequestID></Response>\n";
-    for line in [b"\n".as_slice(), b"Action=CreateDomain"] {
-        assert_eq!(rt; answered(rt.alloc(), line)?.written(), missing.as_slice());
+fn refused_lines_have_their_codes(rt: HostRuntime) -> Result<(), Fail> {
+    let cases = [
+        ("\n", "MissingParameter"),
+        ("Action=Fly", "InvalidAction"),
+        ("Action=CreateDomain", "MissingParameter"),
+        ("Action=CreateDomain&DomainName=ab", "InvalidParameterValue"),
+        (
+            "Action=CreateDomain&DomainName=a%20b",
+            "InvalidParameterValue",
+        ),
+        (
+            "Action=CreateDomain&DomainName=abc&DomainName=abc",
+            "InvalidParameterCombination",
+        ),
+        ("Action=CreateDomain&DomainName=ab%63", "done"),
+        (
+            "Action=GetAttributes&DomainName=books&ItemName=i&ConsistentRead=maybe",
+            "InvalidParameterValue",
+        ),
+        (
+            "Action=GetAttributes&DomainName=books&ItemName=i",
+            "NoSuchDomain",
+        ),
+        ("Action=Select&SelectExpression=x", "InvalidAction"),
+        ("Action=Select", "InvalidAction"),
+        ("Action=ListDomains&MaxNumberOfDomains=0", "InvalidAction"),
+        ("a=%FF&Action=Fly", "InvalidParameterValue"),
+    ];
+    for (line, code) in cases {
+        assert_eq!(rt; code_of(&last_answer(rt.alloc(), line)?), code, "{line}");
     }
-    let not_built =
-        b"<?xml version=\"1.0\"?>\n<Response><Errors><Error><Code>NotYetImplemented</Code><Message>The request is not built yet.</Message><BoxUsage>0.0000001000</BoxUsage></Error></Errors><RequestID>00000000-0000-0000-0000-000000000001</RequestID></Response>\n";
-    for line in [
-        b"Action=Fly&DomainName=books\n".as_slice(),
-        b"Action=CreateDomain&DomainName=a%41b\n",
-        b"a+\xff",
-    ] {
-        assert_eq!(rt; answered(rt.alloc(), line)?.written(), not_built.as_slice());
-    }
-    let invalid =
-        b"<?xml version=\"1.0\"?>\n<Response><Errors><Error><Code>InvalidParameterValue</Code><Message>The value of a parameter is invalid.</Message><BoxUsage>0.0000001000</BoxUsage></Error></Errors><RequestID>00000000-0000-0000-0000-000000000001</RequestID></Response>\n";
+    Ok(())
+}
+
+#[test]
+fn a_refusal_has_its_message(rt: HostRuntime) -> Result<(), Fail> {
+    let output = answered(rt.alloc(), b"Action=Fly")?;
     assert_eq!(rt;
-        answered(rt.alloc(), b"Action=\xff\n")?.written(),
-        invalid.as_slice()
+        output.written(),
+        b"<?xml version=\"1.0\"?>\n<Response><Errors><Error><Code>InvalidAction</Code><Message>The action is not valid.</Message><BoxUsage>0.0000001000</BoxUsage></Error></Errors><RequestID>00000000-0000-0000-0000-000000000001</RequestID></Response>\n".as_slice()
     );
+    Ok(())
+}
+
+const BOOK: &str =
+    "Action=CreateDomain&DomainName=books\nAction=PutAttributes&DomainName=books&ItemName=i&Attribute.1.Name=title&Attribute.1.Value=A&Attribute.2.Name=title&Attribute.2.Value=B&Attribute.3.Name=year&Attribute.3.Value=1990\n";
+
+// The answer to one more line after those that make the book.
+fn after_book(alloc: Global, line: &str) -> Result<String, Fail> {
+    last_answer(alloc, &format!(in alloc; "{BOOK}{line}")?)
+}
+
+#[test]
+fn replaced_values_go_before_any_is_added(rt: HostRuntime) -> Result<(), Fail> {
+    let put =
+        "Action=PutAttributes&DomainName=books&ItemName=i&Attribute.1.Name=title&Attribute.1.Value=C&Attribute.1.Replace=true&Attribute.2.Name=title&Attribute.2.Value=A&Attribute.3.Name=year&Attribute.3.Value=1990";
+    let answer = after_book(rt.alloc(), put)?;
+    assert!(rt;
+        answer
+            .as_str()
+            .contains("<BoxUsage>0.0000002600</BoxUsage>")
+    );
+    let got = after_book(
+        rt.alloc(),
+        &format!(in rt.alloc(); "{put}\nAction=GetAttributes&DomainName=books&ItemName=i")?,
+    )?;
+    assert!(rt;
+        got.as_str().contains(
+            "<GetAttributesResult><Attribute><Name>title</Name><Value>A</Value></Attribute><Attribute><Name>title</Name><Value>C</Value></Attribute><Attribute><Name>year</Name><Value>1990</Value></Attribute></GetAttributesResult><ResponseMetadata><RequestId>00000000-0000-0000-0000-000000000004</RequestId><BoxUsage>0.0000001150</BoxUsage>"
+        )
+    );
+    Ok(())
+}
+
+#[test]
+fn a_get_with_names_answers_those_alone(rt: HostRuntime) -> Result<(), Fail> {
+    let got = after_book(
+        rt.alloc(),
+        "Action=GetAttributes&DomainName=books&ItemName=i&AttributeName.3=year&AttributeName=none",
+    )?;
+    assert!(rt;
+        got.as_str().contains(
+            "<GetAttributesResult><Attribute><Name>year</Name><Value>1990</Value></Attribute></GetAttributesResult>"
+        )
+    );
+    assert!(rt; got.as_str().contains("<BoxUsage>0.0000001050</BoxUsage>"));
+    Ok(())
+}
+
+const EXPECTED: &str =
+    "Action=CreateDomain&DomainName=books\nAction=PutAttributes&DomainName=books&ItemName=i&Attribute.1.Name=one&Attribute.1.Value=x&Attribute.2.Name=two&Attribute.2.Value=x&Attribute.3.Name=two&Attribute.3.Value=y\n";
+
+#[test]
+fn expectations_have_their_answers(rt: HostRuntime) -> Result<(), Fail> {
+    let cases = [
+        ("Name=one&Expected.1.Value=x", "done"),
+        ("Name=one&Expected.1.Value=z", "ConditionalCheckFailed"),
+        ("Name=two&Expected.1.Value=x", "MultiValuedAttribute"),
+        ("Name=none&Expected.1.Value=x", "AttributeDoesNotExist"),
+        ("Name=none&Expected.1.Exists=false", "done"),
+        ("Name=one&Expected.1.Exists=false", "ConditionalCheckFailed"),
+        ("Name=two&Expected.1.Exists=false", "ConditionalCheckFailed"),
+        (
+            "Name=one&Expected.1.Exists=false&Expected.1.Value=x",
+            "ExistsAndExpectedValue",
+        ),
+        (
+            "Name=one&Expected.1.Exists=true",
+            "IncompleteExpectedExpression",
+        ),
+    ];
+    for (expected, code) in cases {
+        let put = format!(in rt.alloc();
+            "{EXPECTED}Action=PutAttributes&DomainName=books&ItemName=i&Attribute.1.Name=new&Attribute.1.Value=v&Expected.1.{expected}"
+        )?;
+        assert_eq!(rt;
+            code_of(&last_answer(rt.alloc(), &put)?),
+            code,
+            "{expected}"
+        );
+        let got = last_answer(
+            rt.alloc(),
+            &format!(in rt.alloc();
+                "{put}\nAction=GetAttributes&DomainName=books&ItemName=i&AttributeName=new"
+            )?,
+        )?;
+        assert_eq!(rt;
+            got.as_str().contains("<Value>v</Value>"),
+            code == "done",
+            "{expected}"
+        );
+    }
+    Ok(())
+}
+
+#[test]
+fn what_is_deleted_is_gone(rt: HostRuntime) -> Result<(), Fail> {
+    let absent = after_book(
+        rt.alloc(),
+        "Action=DeleteAttributes&DomainName=books&ItemName=none",
+    )?;
+    assert!(rt;
+        absent.as_str().contains(
+            "<DeleteAttributesResponse xmlns=\"http://sdb.amazonaws.com/doc/2009-04-15/\"><ResponseMetadata><RequestId>00000000-0000-0000-0000-000000000003</RequestId><BoxUsage>0.0000002000</BoxUsage>"
+        )
+    );
+    let got = after_book(
+        rt.alloc(),
+        "Action=DeleteAttributes&DomainName=books&ItemName=i&Attribute.0.Name=title&Attribute.1.Name=year&Attribute.1.Value=1990\nAction=GetAttributes&DomainName=books&ItemName=i",
+    )?;
+    assert!(rt;
+        got.as_str()
+            .contains("<GetAttributesResult></GetAttributesResult>")
+    );
+    for (line, code) in [
+        ("Action=DeleteDomain&DomainName=none", "done"),
+        (
+            "Action=DeleteAttributes&DomainName=none&ItemName=i",
+            "NoSuchDomain",
+        ),
+        (
+            "Action=DeleteDomain&DomainName=books\nAction=GetAttributes&DomainName=books&ItemName=i",
+            "NoSuchDomain",
+        ),
+    ] {
+        assert_eq!(rt; code_of(&after_book(rt.alloc(), line)?), code, "{line}");
+    }
+    Ok(())
+}
+
+#[test]
+fn a_line_past_the_limit_is_too_long(rt: HostRuntime) -> Result<(), Fail> {
+    for (length, code) in [
+        (1_048_576, "MissingParameter"),
+        (1_048_577, "RequestTooLong"),
+    ] {
+        let mut lines = vec![in rt.alloc(); b'a'; length]?;
+        lines.extend_from_slice(b"\nAction=CreateDomain&DomainName=books")?;
+        let output = answered(rt.alloc(), &lines)?;
+        let text = std::str::from_utf8(output.written())?;
+        assert_eq!(rt; code_of(text), code);
+        let (_, next) = text.rsplit_once("<?xml").ok_or("no answer")?;
+        assert_eq!(rt; code_of(next), "done");
+    }
     Ok(())
 }
 

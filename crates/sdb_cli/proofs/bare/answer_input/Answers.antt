@@ -1,7 +1,7 @@
 use Rattle.std.proofs.Common.{◌+◌, arith}
 use Rattle.std.proofs.Math.ListN.{length-take}
 use Rattle.sdb_cli.specs.Standing.{standing}
-use Rattle.sdb_cli.proofs.RunsLemmas.{Going-more, Ends-limit, Ends-stopped, Ends-finished}
+use Rattle.sdb_cli.proofs.RunsLemmas.{Going-none, Going-more, Ends-limit, Ends-stopped, Ends-finished}
 use Rattle.sdb_cli.proofs.bare.answer_input.Goals as goal
 
 pub returns-in-Ok-eq0-clause-ends : goal.returns-in-Ok-eq0-clause-ends
@@ -24,3 +24,11 @@ returns-in-Err-clause-ends g c =
 
 pub returns-clause-ends : goal.returns-clause-ends
 returns-clause-ends g c = Ends-limit c.args.limit _ (standing c.loop-taken.session) _ _ _ _ c.loop-taken.taken c.loop-taken.invariant.going (omega (arith, c.loop-taken.invariant.within))
+
+pub loop-taken-init : goal.loop-taken-init
+loop-taken-init g c = record {
+  going = Going-none (standing c.args.session.now) (g.T.Source.left c.args.input.now) (g.K.Sink.written c.args.output.now) c.requires.held;
+  within = omega arith;
+  later_read = omega arith;
+  later_write = omega arith;
+}

@@ -1,12 +1,16 @@
-use Rattle.std.proofs.Common.{◌≡◌, ◌++◌, ◌-◌, ◌≤◌, length, take}
-use Rattle.sdb_domain.specs.Rows.{pairs_of}
+use Rattle.std.proofs.Common.{◌≡◌, ◌≤◌, ◌++◌, length, take, ℕ, List}
+use Rattle.std.specs.Borrow.{Bor}
+use Rattle.sdb_pairs.specs.declared.pair.Pair.{Pair}
 use Rattle.sdb_cli.specs.Body.{attributes}
-use Rattle.sdb_cli.specs.Plain.{account}
+use Rattle.sdb_cli.specs.Gets.{Finds, asked_pairs}
 use Rattle.sdb_cli.proofs.get.append_attributes.Given as goal
 
--- the pairs before the place are appended
-abbrev pub invariant-pairs : goal.invariant-pairs
-invariant-pairs l = (l.place ≤ length (pairs_of l.accounts account l.domain l.item)) × (l.out.bytes ≡ l.fn.out.bytes ++ attributes (take l.place (pairs_of l.accounts account l.domain l.item)))
+-- the pairs so far that are asked for are appended and counted
+pub record Appended (old new : List ℕ) (keys : List (Bor (List ℕ))) (names : List (List ℕ)) (pairs : List Pair) (count : ℕ) : Type 0 where
+  pub text : new ≡ old ++ attributes (asked_pairs names pairs)
+  pub counted : count ≡ length (asked_pairs names pairs)
+  pub few : count ≤ length pairs
+  pub finds : Finds keys names
 
-abbrev pub decreases-pairs : goal.decreases-pairs
-decreases-pairs l = length (pairs_of l.accounts account l.domain l.item) - l.place
+abbrev pub invariant-loop-pair : goal.invariant-loop-pair
+invariant-loop-pair l = Appended l.fn.out.bytes l.out.bytes l.set.keys l.names (take l.pair-index l.pairs) l.count

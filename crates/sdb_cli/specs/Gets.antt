@@ -1,0 +1,24 @@
+-- What a get answers.
+use Rattle.std.specs.Prelude.{◌≡◌, ℕ, ◌+◌, ◌*◌, ◌-◌, ◌^◌, min, List, [], ◌∷◌, Bool, true, filter, bytes_eq}
+use Rattle.std.specs.Borrow.{Bor}
+use Rattle.std.specs.Cmp.Lexicographic.{slice_cmp}
+use Rattle.std.specs.List.{list_any}
+use Rattle.std.specs.Ordering.{is_eq, nat_cmp}
+use Rattle.sdb_pairs.specs.declared.pair.Pair.{Pair}
+
+-- whether a get of these names asks for the pair: it has one of the names, or there is no name
+abbrev pub is_asked : List (List ℕ) → Pair → Bool
+is_asked [] pair = true
+is_asked (name ∷ names) pair = list_any (bytes_eq pair.name) (name ∷ names)
+
+-- the pairs that are asked for, in their order
+abbrev pub asked_pairs : List (List ℕ) → List Pair → List Pair
+asked_pairs names pairs = filter (is_asked names) pairs
+
+-- an ordered set finds a name where it is one of these
+abbrev pub Finds : List (Bor (List ℕ)) → List (List ℕ) → Type 0
+Finds keys names = (name : List ℕ) → list_any (λ k. is_eq (slice_cmp nat_cmp name k.now)) keys ≡ list_any (bytes_eq name) names
+
+-- the units of a get: a thousand, and fifty for each pair that is answered, as far as 64 bits hold them
+abbrev pub get_units : ℕ → ℕ
+get_units pairs = min (1000 + min (50 * pairs) (2 ^ 64 - 1)) (2 ^ 64 - 1)
