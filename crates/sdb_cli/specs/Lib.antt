@@ -2,6 +2,7 @@ pub mod Actions
 pub mod Body
 pub mod Digits
 pub mod Escape
+pub mod Executed
 pub mod Gets
 pub mod Line
 pub mod Lines

@@ -25,10 +25,23 @@ write_units attributes = min (2000 + min (200 * attributes) (2 ^ 64 - 1)) (2 ^ 6
 abbrev pub domain_units : ℕ
 domain_units = 50000
 
+-- what a write is answered where it is done: the name of its action, and the units that it used
+pub record WriteDone : Type 0 where
+  pub action : List ℕ
+  pub units : ℕ
+
+-- the same of the writes that a line can ask for
+abbrev pub done_of : Request → Option WriteDone
+done_of (CreateDomain domain) = Some (record { action = create_domain_action; units = domain_units })
+done_of (DeleteDomain domain) = Some (record { action = delete_domain_action; units = domain_units })
+done_of (Put domain item expected) = Some (record { action = put_action; units = write_units (length item.pairs) })
+done_of (Delete domain item expected) = Some (record { action = delete_action; units = write_units (length item.parts) })
+done_of _ = None
+
 -- the body that answers a write
-abbrev pub reply_written : (action : List ℕ) (number units : ℕ) → Result DomainEntries Refusal → List ℕ
-reply_written action number units (Ok accounts) = success action [] number units
-reply_written action number units (Err refusal) = refused refusal number
+abbrev pub reply_written : ℕ → WriteDone → Result DomainEntries Refusal → List ℕ
+reply_written number done (Ok accounts) = success done.action [] number done.units
+reply_written number done (Err refusal) = refused refusal number
 
 -- the body that answers a get of these pairs
 abbrev pub reply_pairs : ℕ → List Pair → List ℕ
@@ -39,36 +52,29 @@ abbrev pub reply_got : ℕ → Option ItemEntries → List ℕ → List (List �
 reply_got number None item names = refused NoSuchDomain number
 reply_got number (Some items) item names = reply_pairs number (asked_pairs names (pairs_at items item))
 
+-- the body that answers a request other than a get: a write is answered, and no other is executed
+abbrev pub reply_write : ℕ → DomainEntries → Request → Option WriteDone → List ℕ
+reply_write number accounts request None = refused InvalidAction number
+reply_write number accounts request (Some done) = reply_written number done (write accounts account request)
+
 -- the body that answers a request
 abbrev pub reply : ℕ → DomainEntries → Request → List ℕ
-reply number accounts (CreateDomain domain) = reply_written create_domain_action number domain_units (write accounts account (CreateDomain domain))
-reply number accounts (DeleteDomain domain) = reply_written delete_domain_action number domain_units (write accounts account (DeleteDomain domain))
-reply number accounts (Put domain item expected) = reply_written put_action number (write_units (length item.pairs)) (write accounts account (Put domain item expected))
-reply number accounts (Delete domain item expected) = reply_written delete_action number (write_units (length item.parts)) (write accounts account (Delete domain item expected))
 reply number accounts (Get domain item names) = reply_got number (items_of accounts account domain) item names
-reply number accounts (ListDomains most token) = refused InvalidAction number
-reply number accounts (DomainMetadata domain) = refused InvalidAction number
-reply number accounts (BatchPut domain items) = refused InvalidAction number
-reply number accounts (BatchDelete domain items) = refused InvalidAction number
-reply number accounts (Select expression token) = refused InvalidAction number
+reply number accounts request = reply_write number accounts request (done_of request)
 
 -- the accounts once a write is done, or as they were where it is refused
 abbrev pub after_written : DomainEntries → Result DomainEntries Refusal → DomainEntries
 after_written accounts (Ok new) = new
 after_written accounts (Err refusal) = accounts
 
+-- the accounts once a request is answered that may be a write
+abbrev pub after_write : DomainEntries → Request → Option WriteDone → DomainEntries
+after_write accounts request None = accounts
+after_write accounts request (Some done) = after_written accounts (write accounts account request)
+
 -- the accounts once the request is answered
 abbrev pub after_request : DomainEntries → Request → DomainEntries
-after_request accounts (CreateDomain domain) = after_written accounts (write accounts account (CreateDomain domain))
-after_request accounts (DeleteDomain domain) = after_written accounts (write accounts account (DeleteDomain domain))
-after_request accounts (Put domain item expected) = after_written accounts (write accounts account (Put domain item expected))
-after_request accounts (Delete domain item expected) = after_written accounts (write accounts account (Delete domain item expected))
-after_request accounts (Get domain item names) = accounts
-after_request accounts (ListDomains most token) = accounts
-after_request accounts (DomainMetadata domain) = accounts
-after_request accounts (BatchPut domain items) = accounts
-after_request accounts (BatchDelete domain items) = accounts
-after_request accounts (Select expression token) = accounts
+after_request accounts request = after_write accounts request (done_of request)
 
 -- the body that answers a line of which this is asked
 abbrev pub reply_to : ℕ → DomainEntries → Result Request Refusal → List ℕ

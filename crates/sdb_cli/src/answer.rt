@@ -1,11 +1,13 @@
 // One line answered over the accounts.
 ghost use Rattle.std.specs.Prelude.{◌≡◌, ◌∷◌, [], ◌++◌, OnOk};
-ghost use Rattle.sdb_cli.specs.Plain.{account, after, after_request, after_written, answer as answer_to, reply, reply_got, reply_written, write_units as units_of_write};
+ghost use Rattle.sdb_cli.specs.Executed.{done_seen};
+ghost use Rattle.sdb_cli.specs.Plain.{account, after, after_request, after_written, answer as answer_to, reply, reply_got, reply_written};
 ghost use Rattle.sdb_cli.specs.Body.{refused};
 ghost use Rattle.sdb_pairs.specs.Accounts.{items_of, pairs_at};
 ghost use Rattle.sdb_write.specs.Writes.{IsSingleWrite, write as write_to};
 
 use crate::body::{append_refused, append_success};
+use crate::done::{Done, done_of};
 use crate::get::append_get;
 use crate::line::read_line;
 use sdb_action::Request;
@@ -18,9 +20,6 @@ use std::alloc::Global;
 
 // The account for which lines are answered.
 const ACCOUNT: AccountId = AccountId(1);
-
-// The units of a write to a domain.
-const DOMAIN_UNITS: u64 = 50_000;
 
 // Counts the items that gets look up.
 struct Looked;
@@ -66,57 +65,13 @@ fn execute(
     ensures accounts { OnOk result (accounts.new ≡ after_request accounts.old request.now) }
     ensures bytes { OnOk result (out.new.bytes ≡ out.old.bytes ++ reply number accounts.old request.now) }
 {
-    match request {
-        Request::CreateDomain(_) => write(
-            alloc,
-            accounts,
-            request,
-            "CreateDomain",
-            number,
-            DOMAIN_UNITS,
-            out,
-        ),
-        Request::DeleteDomain(_) => write(
-            alloc,
-            accounts,
-            request,
-            "DeleteDomain",
-            number,
-            DOMAIN_UNITS,
-            out,
-        ),
-        Request::Put(_, item, _) => write(
-            alloc,
-            accounts,
-            request,
-            "PutAttributes",
-            number,
-            write_units(item.pairs.len()),
-            out,
-        ),
-        Request::Delete(_, item, _) => write(
-            alloc,
-            accounts,
-            request,
-            "DeleteAttributes",
-            number,
-            write_units(item.parts.len()),
-            out,
-        ),
-        Request::Get(domain, item, names) => get(alloc, accounts, domain, item, names, number, out),
-        Request::ListDomains(_, _)
-        | Request::DomainMetadata(_)
-        | Request::BatchPut(_, _)
-        | Request::BatchDelete(_, _)
-        | Request::Select(_, _) => append_refused(out, Refusal::InvalidAction, number),
+    if let Request::Get(domain, item, names) = request {
+        return get(alloc, accounts, domain, item, names, number, out);
     }
-}
-
-// Two thousand units, and two hundred for each attribute.
-fn write_units(attributes: usize) -> u64
-    ensures { result ≡ units_of_write attributes }
-{
-    2_000_u64.saturating_add(200_u64.saturating_mul(attributes as u64))
+    match done_of(request) {
+        Some(done) => write(alloc, accounts, request, done, number, out),
+        None => append_refused(out, Refusal::InvalidAction, number),
+    }
 }
 
 // Decides a write, applies its changes, and answers.
@@ -124,21 +79,20 @@ fn write(
     alloc: Global,
     accounts: &mut Accounts,
     request: &Request,
-    action: &str,
+    done: Done,
     number: u64,
-    units: u64,
     out: &mut Bytes,
 ) -> Result<(), OutOfMemory>
     requires { IsSingleWrite request.now }
     ensures accounts { OnOk result (accounts.new ≡ after_written accounts.old (write_to accounts.old account request.now)) }
-    ensures bytes { OnOk result (out.new.bytes ≡ out.old.bytes ++ reply_written action.now number units (write_to accounts.old account request.now)) }
+    ensures bytes { OnOk result (out.new.bytes ≡ out.old.bytes ++ reply_written number (done_seen done) (write_to accounts.old account request.now)) }
 {
     match decide(alloc, accounts, ACCOUNT, request) {
         Ok(changes) => accounts.apply(&changes)?,
         Err(Refusal::OutOfMemory) => return Err(OutOfMemory),
         Err(refusal) => return append_refused(out, refusal, number),
     }
-    append_success(out, action, number, units)
+    append_success(out, done.action, number, done.units)
 }
 
 fn get(

@@ -6,6 +6,7 @@ mod bare;
 mod body;
 mod command;
 mod digits;
+mod done;
 mod escape;
 mod get;
 mod held;

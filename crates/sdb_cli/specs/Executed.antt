@@ -1,0 +1,6 @@
+-- What a write of the code is answered where it is done.
+use Rattle.sdb_cli.specs.Plain.{WriteDone}
+use Rattle.sdb_cli.specs.declared.done.Done.{Done}
+
+abbrev pub done_seen : Done → WriteDone
+done_seen done = record { action = done.action.now; units = done.units }
