@@ -40,9 +40,9 @@ abbrev pub changes : ℕ → Request → List Change
 changes account (CreateDomain domain) = MakeDomain account domain ∷ []
 changes account (DeleteDomain domain) = DropDomain account domain ∷ []
 changes account (Put domain item expect) = edit_of account domain (put_write item) ∷ []
-changes account (BatchPut domain items) = map (λ item. edit_of account domain (put_write item)) items
+changes account (BatchPut domain items) = map (edit_of account domain) (map put_write items)
 changes account (Delete domain item expect) = edit_of account domain (drop_write item) ∷ []
-changes account (BatchDelete domain items) = map (λ item. edit_of account domain (drop_write item)) items
+changes account (BatchDelete domain items) = map (edit_of account domain) (map drop_write items)
 changes account _ = []
 
 -- the changes where the write gives accounts, else its refusal

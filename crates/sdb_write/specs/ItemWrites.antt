@@ -1,5 +1,6 @@
 -- What a write leaves of the items of a domain, told by what stands at each item afterwards.
-use Rattle.std.specs.Prelude.{ℕ, List, Option, Some, None, fold, map}
+use Rattle.std.specs.Prelude.{ℕ, List, Option, Some, None, fold, map, bytes_eq}
+use Rattle.std.specs.List.{IsDistinct}
 use Rattle.sdb_base.specs.Texts.{text_cmp}
 use Rattle.sdb_action.specs.declared.request.DropItem.{DropItem}
 use Rattle.sdb_action.specs.declared.request.DropPart.{DropPart}
@@ -50,3 +51,7 @@ with_pairs items name pairs = placed text_cmp items name (item_with pairs)
 -- the items after the writes: each named item has what its write leaves of the pairs that it had before them all
 abbrev pub items_written : ItemEntries → List ItemWrite → ItemEntries
 items_written old writes = fold (λ items w. with_pairs items (name_of w) (left_of w (pairs_at old (name_of w)))) old writes
+
+-- each of the writes names an item of its own
+abbrev pub NamesApart : List ItemWrite → Type 0
+NamesApart writes = IsDistinct bytes_eq (map name_of writes)

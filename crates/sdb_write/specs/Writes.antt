@@ -9,7 +9,7 @@ use Rattle.sdb_pairs.specs.Entries.{placed}
 use Rattle.sdb_tables.specs.declared.refusal.Refusal.{Refusal}
 use Rattle.sdb_tables.specs.declared.refusal.Refusal.TheVariants.{NoSuchDomain, ConditionalCheckFailed, AttributeDoesNotExist, MultiValuedAttribute, OutOfMemory}
 use Rattle.sdb_write.specs.Expectation.{unmet}
-use Rattle.sdb_write.specs.ItemWrites.{ItemWrite, put_write, drop_write, items_written}
+use Rattle.sdb_write.specs.ItemWrites.{ItemWrite, put_write, drop_write, items_written, NamesApart}
 
 -- the accounts with these items in the domain
 abbrev pub with_items : DomainEntries → ℕ → List ℕ → ItemEntries → DomainEntries
@@ -55,6 +55,16 @@ unless (Some refusal) value = Err refusal
 -- the first refusal of a write, or the new accounts
 abbrev pub write : DomainEntries → ℕ → Request → Result DomainEntries Refusal
 write accounts account request = unless (refusal_of accounts account request) (written accounts account request)
+
+-- a write; a batch names each item once
+abbrev pub IsWrite : Request → Type 0
+IsWrite (CreateDomain domain) = Unit {0}
+IsWrite (DeleteDomain domain) = Unit {0}
+IsWrite (Put domain item expect) = Unit {0}
+IsWrite (BatchPut domain items) = NamesApart (map put_write items)
+IsWrite (Delete domain item expect) = Unit {0}
+IsWrite (BatchDelete domain items) = NamesApart (map drop_write items)
+IsWrite _ = ⊥
 
 -- a write that is no batch
 abbrev pub IsSingleWrite : Request → Type 0

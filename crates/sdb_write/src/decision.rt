@@ -33,6 +33,7 @@ pub fn decide(
     ensures answer { Answers (decision accounts.now account request.now) result }
     ensures only { IfErr result IsWriteRefusal }
 {
+    let mut items = Steps::<Items>::new();
     match request {
         Request::CreateDomain(domain) => {
             let domain = domain.copy(alloc)?;
@@ -43,28 +44,14 @@ pub fn decide(
             Ok(one_change(alloc, Change::DropDomain(account, domain))?)
         }
         Request::Put(domain, item, expect) => {
-            let mut items = Steps::<Items>::new();
-            check(
-                accounts,
-                account,
-                domain,
-                &item.name,
-                expect.as_ref(),
-                &mut items,
-            )?;
+            let there = accounts.domain(account, domain);
+            check(there, &item.name, expect.as_ref(), &mut items)?;
             let ops = put_ops(alloc, item.pairs.as_slice())?;
             Ok(one_edit(alloc, account, domain, &item.name, ops)?)
         }
         Request::Delete(domain, item, expect) => {
-            let mut items = Steps::<Items>::new();
-            check(
-                accounts,
-                account,
-                domain,
-                &item.name,
-                expect.as_ref(),
-                &mut items,
-            )?;
+            let there = accounts.domain(account, domain);
+            check(there, &item.name, expect.as_ref(), &mut items)?;
             let ops = drop_ops(alloc, item.parts.as_slice())?;
             Ok(one_edit(alloc, account, domain, &item.name, ops)?)
         }

@@ -1,33 +1,29 @@
 ghost use Rattle.std.specs.Prelude.{◌≡◌, ◌+◌, ◌≤◌, map, MatchResult, Some, None};
 ghost use Rattle.std.specs.Option.{option_copied};
-ghost use Rattle.sdb_pairs.specs.Accounts.{items_of, pairs_at};
+ghost use Rattle.sdb_pairs.specs.Accounts.{pairs_at};
 ghost use Rattle.sdb_write.specs.Expectation.{judged, unmet};
 ghost use Rattle.sdb_write.specs.Writes.{item_refusal};
 
 use sdb_action::Expect;
-use sdb_base::{AccountId, Steps, Text};
-use sdb_domain::{Accounts, Domain};
+use sdb_base::{Steps, Text};
+use sdb_domain::Domain;
 use sdb_pairs::Pair;
 use sdb_tables::Refusal;
 
-/// Whether an item of the domain may be written: the domain is there, and the item is as expected.
+/// Whether the item may be written: its domain is there, and it is as expected.
 pub(crate) fn check<L>(
-    accounts: &Accounts,
-    account: AccountId,
-    domain: &Text,
+    domain: Option<&Domain>,
     item: &Text,
     expect: Option<&Expect>,
     items: &mut Steps<L>,
 ) -> Result<(), Refusal>
     ensures answer { MatchResult result
-        (λ _. item_refusal (items_of accounts.now account domain.now) item.now (option_copied expect.entry) ≡ None)
-        (λ refusal. item_refusal (items_of accounts.now account domain.now) item.now (option_copied expect.entry) ≡ Some refusal) }
+        (λ _. item_refusal (option_copied domain.entry) item.now (option_copied expect.entry) ≡ None)
+        (λ refusal. item_refusal (option_copied domain.entry) item.now (option_copied expect.entry) ≡ Some refusal) }
     ensures later { items.old ≤ items.new }
     ensures ticks { items.new ≤ items.old + 1 }
 {
-    let domain = accounts
-        .domain(account, domain)
-        .ok_or(Refusal::NoSuchDomain)?;
+    let domain = domain.ok_or(Refusal::NoSuchDomain)?;
     match expect {
         Some(expect) => check_item(domain, item, expect, items),
         None => Ok(()),

@@ -1,6 +1,6 @@
 ghost use Rattle.sdb_write.specs.Laws.{WritesAreChanges, WritesKeepAccountsRising};
 
-/// Where a write gives accounts, applying its changes gives those accounts.
+/// Where a write gives accounts, a batch too, applying its changes gives those accounts.
 pub fn writes_are_changes()
     ensures { WritesAreChanges }
 {}
