@@ -1,10 +1,8 @@
-//! The accounts with their domains and items, for now a plain list of rows.
+//! The accounts with their domains and items, as ordered maps.
 #![tactic(auto)]
 
-mod accounts;
-mod row;
+mod held;
+mod keyed;
+mod names;
+mod sums;
 
-pub use accounts::Accounts;
-
-#[cfg(test)]
-mod tests;

@@ -1,0 +1,3 @@
+pub mod EntryViews
+pub mod NameLemmas
+pub mod WholeLemmas
