@@ -1,5 +1,8 @@
 -- Entries that hide some of their values, and entries taken back.
 use Rattle.std.specs.Prelude.{ℕ, List, [], ◌∷◌, Option, None, Some}
+use Rattle.std.specs.Borrow.{Bor}
+use Rattle.std.specs.declared.ops.Bound.{Bound}
+use Rattle.std.specs.declared.ops.Bound.TheVariants.{Excluded, Unbounded}
 use Rattle.std.specs.Map.{remove_entry, set_value}
 use Rattle.std.specs.BTreeMap.{is_at}
 use Rattle.sdb_base.specs.Texts.{text_cmp}
@@ -23,3 +26,8 @@ back es key (Some was) = set_value (is_at (text_cmp key)) es was
 abbrev pub unwound : {S U : Type 0} → (S → U → S) → S → List U → S
 unwound undone state [] = state
 unwound undone state (step ∷ steps) = undone (unwound undone state steps) step
+
+-- the bound from which the keys above the given one begin
+abbrev pub bound_after : Option (Bor (List ℕ)) → Bound (Bor (List ℕ))
+bound_after None = Unbounded
+bound_after (Some key) = Excluded key

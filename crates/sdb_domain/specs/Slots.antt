@@ -1,8 +1,8 @@
 -- The domains of one account as they are kept, and the accounts as one list.
-use Rattle.std.specs.Prelude.{◌≡◌, ℕ, ◌+◌, ◌-◌, ◌<◌, Bool, true, false, List, [], ◌∷◌, ◌++◌, length, map, Option, Some, None, IfSome}
+use Rattle.std.specs.Prelude.{◌≡◌, ◌≢◌, ℕ, zero, suc, ◌+◌, ◌-◌, ◌<◌, Bool, true, false, List, [], ◌∷◌, ◌++◌, length, map, Option, Some, None, IfSome}
 use Rattle.std.specs.List.{sum_by}
 use Rattle.sdb_base.specs.Texts.{text_cmp}
-use Rattle.sdb_pairs.specs.Accounts.{ItemEntries, DomainEntries}
+use Rattle.sdb_pairs.specs.Accounts.{ItemEntries, DomainEntries, AreAccounts}
 use Rattle.sdb_pairs.specs.Entries.{found, IsRising}
 use Rattle.sdb_domain.specs.declared.slot.Slot.{Slot}
 use Rattle.sdb_domain.specs.declared.slot.Slot.TheVariants.{Settled, Open, Dropped}
@@ -36,11 +36,23 @@ pub record AccountKept : Type 0 where
 abbrev pub no_account : AccountKept
 no_account = record { slots = []; count = 0; weight = 0 }
 
+abbrev pub weight_of_domain : List ℕ × ItemEntries → ℕ
+weight_of_domain domain = domain_weight domain.1
+
+-- how many domains that is, and what they weigh
+abbrev pub count_shown : Option ItemEntries → ℕ
+count_shown None = 0
+count_shown (Some items) = 1
+
+abbrev pub weight_shown : Option ItemEntries → ℕ
+weight_shown None = 0
+weight_shown (Some items) = domain_weight items
+
 -- names rise, and the sums are those of the domains that are seen
 pub record IsWholeAccount (account : AccountKept) : Type 0 where
   pub rise : IsRising text_cmp account.slots
   pub count : account.count ≡ length (domains_shown account.slots)
-  pub weight : account.weight ≡ sum_by (λ domain. domain_weight domain.1) (domains_shown account.slots)
+  pub weight : account.weight ≡ sum_by weight_of_domain (domains_shown account.slots)
 
 -- the slot is not open to edits
 abbrev pub IsSettled : Slot → Type 0
@@ -60,6 +72,13 @@ numbered n (domains ∷ more) = map (λ domain. ((n, domain.0), domain.1)) domai
 abbrev pub accounts_shown : List AccountKept → DomainEntries
 accounts_shown accounts = numbered 1 (map (λ account. domains_shown account.slots) accounts)
 
--- what is kept is right: there are 16 accounts, none has an open slot, and the list is one of accounts
+-- one account in 16
+abbrev pub account_at : List AccountKept → ℕ → AccountKept
+account_at [] n = no_account
+account_at (account ∷ more) zero = account
+account_at (account ∷ more) (suc n) = account_at more n
+
+-- what is kept is right: no slot is open, and the list is one of accounts
 pub record AreKept (accounts : List AccountKept) : Type 0 where
-  pub settled : (i : ℕ) (account : AccountKept) → Unit {0}
+  pub settled : (i : ℕ) → AreSettled (account_at accounts i).slots
+  pub lawful : AreAccounts (accounts_shown accounts)

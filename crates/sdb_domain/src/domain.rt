@@ -68,7 +68,7 @@ impl Domain {
     pub fn item_count(&self) -> u64
         ensures { result ≡ length self.now }
     {
-        self.held.sums().items
+        self.held.item_count()
     }
 
     /// The weight of the items: each weighs the bytes of its name and 64, and each pair the bytes of its
@@ -76,6 +76,6 @@ impl Domain {
     pub fn weight(&self) -> u64
         ensures { result ≡ domain_weight self.now }
     {
-        self.held.sums().weight
+        self.held.weight()
     }
 }

@@ -1,4 +1,7 @@
-ghost use Rattle.std.specs.Prelude.{◌≡◌, IfOk, OnOk, OnErr, option_map};
+ghost use Rattle.std.specs.Prelude.{◌≡◌, IfOk, OnOk, OnErr, option_map, length};
+ghost use Rattle.std.specs.Option.{option_copied};
+ghost use Rattle.sdb_domain.specs.LookUps.{least_after, held_text};
+ghost use Rattle.sdb_domain.specs.Weights.{domain_weight};
 ghost use Rattle.sdb_base.specs.Texts.{text_cmp};
 ghost use Rattle.sdb_pairs.specs.Entries.{found};
 ghost use Rattle.sdb_pairs.specs.Changes.{item_with};
@@ -105,6 +108,37 @@ impl Held {
         ensures whole { IsWhole self.now }
     {
         self.sums
+    }
+
+    pub(crate) fn item_count(&self) -> u64
+        ensures { result ≡ length (items_kept self.now) }
+    {
+        self.sums.items
+    }
+
+    pub(crate) fn weight(&self) -> u64
+        ensures { result ≡ domain_weight (items_kept self.now) }
+    {
+        self.sums.weight
+    }
+
+    pub(crate) fn scan(&self, after: Option<&Text>) -> Option<(&Text, &Item)>
+        ensures { option_map (λ p. (p.0.now, p.1.now)) result ≡ least_after (items_kept self.now) (option_copied after.entry) }
+    {
+        for (name, item) in self.rows.range_after(after) {
+            if !item.pairs().is_empty() {
+                return Some((name, item));
+            }
+        }
+        None
+    }
+
+    pub(crate) fn held_name(&self, name: &Text) -> Option<&Text>
+        ensures { option_map (λ t. t.now) result ≡ held_text (items_kept self.now) name.now }
+    {
+        let (held, item) = self.rows.get_key_value(name)?;
+        shown_item(item)?;
+        Some(held)
     }
 
     // Takes an edit back.

@@ -1,16 +1,19 @@
-ghost use Rattle.std.specs.Prelude.{◌≡◌, [], IfOk, OnOk, OnErr};
+ghost use Rattle.std.specs.Prelude.{◌≡◌, [], IfOk, OnOk, OnErr, Some, None, IfSome, option_map};
 ghost use Rattle.std.specs.Option.{option_copied};
 ghost use Rattle.std.specs.Map.{remove_entry, set_value};
 ghost use Rattle.std.specs.BTreeMap.{is_at, insert_entry};
 ghost use Rattle.sdb_base.specs.Texts.{text_cmp};
 ghost use Rattle.sdb_pairs.specs.Entries.{found, IsRising};
-ghost use Rattle.sdb_domain.specs.Keyed.{back};
+ghost use Rattle.sdb_domain.specs.Keyed.{back, bound_after};
+ghost use Rattle.sdb_domain.specs.LookUps.{entries_after};
 
 use sdb_base::{OutOfMemory, Text};
 use std::alloc::Global;
 use std::collections::BTreeMap;
+use std::collections::btree_map::Range;
 use std::marker::Model;
 use std::mem::replace;
+use std::ops::Bound;
 
 // Values under texts in rising order, whose changes can be taken back without memory.
 #[derive(Debug, Drop)]
@@ -47,6 +50,32 @@ impl<V> Keyed<V> {
         ensures rising { IsRising text_cmp self.now }
     {
         self.map.get(key)
+    }
+
+    // The stored key too.
+    pub(crate) fn get_key_value(&self, key: &Text) -> Option<(&Text, &V)>
+        ensures key { IfSome (found text_cmp self.now key.now) (λ v. option_map (λ p. (p.0.now, p.1.now)) result ≡ Some (key.now, v)) }
+        ensures none { found text_cmp self.now key.now ≡ None → result ≡ None }
+    {
+        self.map.get_key_value(key)
+    }
+
+    // The entries above the key, in order, or all.
+    pub(crate) fn range_after(&self, after: Option<&Text>) -> Range<'_, Text, V>
+        ensures entries { result ≡ entries_after self.now (option_copied after.entry) }
+        ensures rising { IsRising text_cmp self.now }
+    {
+        self.map.range((start_after(after), Bound::Unbounded))
+    }
+}
+
+// The bound from which the keys above the given one begin.
+fn start_after(after: Option<&Text>) -> Bound<&Text>
+    ensures { result ≡ bound_after after.entry }
+{
+    match after {
+        Some(key) => Bound::Excluded(key),
+        None => Bound::Unbounded,
     }
 }
 

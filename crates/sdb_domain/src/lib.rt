@@ -1,8 +1,14 @@
 //! The accounts with their domains and items, as ordered maps.
 #![tactic(auto)]
 
+mod account;
+mod domain;
 mod held;
 mod keyed;
+mod metadata;
 mod names;
+mod slot;
 mod sums;
 
+pub use domain::Domain;
+pub use metadata::Metadata;
