@@ -104,7 +104,7 @@ module _ {X : Type 0} (es : List (List ℕ × X)) (k : List ℕ) (s : IsRising t
       ∙ set_value_same (is_at (text_cmp k)) es w (sym h)
 
 -- what stands there, written once more
-remove_absent : {K X : Type 0} (test : K → Bool) (es : List (K × X)) → lookup test es ≡ None → remove_entry test es ≡ es
+pub remove_absent : {K X : Type 0} (test : K → Bool) (es : List (K × X)) → lookup test es ≡ None → remove_entry test es ≡ es
 remove_absent test [] h = refl
 remove_absent test (e ∷ es) h =
     by_bool (test e.0)
@@ -170,3 +170,56 @@ module _ {K X : Type 0} {cmp : K → K → Ordering} (o : IsTotalOrder cmp) (exa
       (λ n.
       let b : weight_at (e ∷ es) k ≡ weight_at es k = ap (λ x. f (k, unwrap_or x d)) (found_later (is_at (cmp k)) e es n) in
       omega arith)
+
+-- the same, where nothing adds nothing
+module _ {K X : Type 0} {cmp : K → K → Ordering} (o : IsTotalOrder cmp) (exact : CmpEqualImpliesEq cmp) (f : K × X → ℕ) where
+  abbrev pub adds : K → Option X → ℕ
+  adds k None = 0
+  adds k (Some x) = f (k, x)
+
+  tied_key : (k : K) (e : K × X) → is_at (cmp k) e.0 ≡ true → k ≡ e.0
+  tied_key k e t = exact k e.0 (tie o exact f e.1 (cmp k e.0) t)
+
+  pub sum_put : (es : List (K × X)) (k : K) (v : X) → IsRising cmp es → sum_by f (insert_entry cmp es k v) + adds k (found cmp es k) ≡ sum_by f es + f (k, v)
+  unfolding IsStrictlySortedBy
+  sum_put [] k v s = omega (arith, sum_by-cons f (k, v) [])
+  sum_put (e ∷ es) k v s =
+      let l : sum_by f (e ∷ es) ≡ f e + sum_by f es = sum_by-cons f e es in
+      by_ordering (cmp k e.0)
+      (λ r.
+      let a : sum_by f (insert_entry cmp (e ∷ es) k v) ≡ f (k, v) + sum_by f (e ∷ es) = ap (sum_by f) (inserted o e es k v Less r) ∙ sum_by-cons f (k, v) (e ∷ es) in
+      let b : adds k (found cmp (e ∷ es) k) ≡ 0 = ap (adds k) (none_below o e es k s r) in
+      omega arith)
+      (λ r.
+      let same : k ≡ e.0 = exact k e.0 r in
+      let a : sum_by f (insert_entry cmp (e ∷ es) k v) ≡ f (e.0, v) + sum_by f es = ap (sum_by f) (inserted o e es k v Equal r) ∙ sum_by-cons f (e.0, v) es in
+      let b : adds k (found cmp (e ∷ es) k) ≡ f (k, e.1) = ap (adds k) (found_first (is_at (cmp k)) e es (off_at o k e Equal r)) in
+      let u : f (k, e.1) ≡ f e = ap (λ x. f (x, e.1)) same in
+      let w : f (k, v) ≡ f (e.0, v) = ap (λ x. f (x, v)) same in
+      omega arith)
+      (λ r.
+      let ih = sum_put es k v s.1 in
+      let a : sum_by f (insert_entry cmp (e ∷ es) k v) ≡ f e + sum_by f (insert_entry cmp es k v) = ap (sum_by f) (inserted o e es k v Greater r) ∙ sum_by-cons f e (insert_entry cmp es k v) in
+      let b : adds k (found cmp (e ∷ es) k) ≡ adds k (found cmp es k) = ap (adds k) (found_later (is_at (cmp k)) e es (off_at o k e Greater r)) in
+      omega arith)
+
+  pub sum_removed : (es : List (K × X)) (k : K) → sum_by f (remove_entry (is_at (cmp k)) es) + adds k (found cmp es k) ≡ sum_by f es
+  sum_removed [] k = refl
+  sum_removed (e ∷ es) k =
+      let l : sum_by f (e ∷ es) ≡ f e + sum_by f es = sum_by-cons f e es in
+      by_bool (is_at (cmp k) e.0)
+      (λ t.
+      let a : sum_by f (remove_entry (is_at (cmp k)) (e ∷ es)) ≡ sum_by f es = ap (λ b. sum_by f (cond b es (e ∷ remove_entry (is_at (cmp k)) es))) t in
+      let b : adds k (found cmp (e ∷ es) k) ≡ f (k, e.1) = ap (adds k) (found_first (is_at (cmp k)) e es t) in
+      let u : f (k, e.1) ≡ f e = ap (λ x. f (x, e.1)) (tied_key k e t) in
+      omega arith)
+      (λ n.
+      let ih = sum_removed es k in
+      let a : sum_by f (remove_entry (is_at (cmp k)) (e ∷ es)) ≡ f e + sum_by f (remove_entry (is_at (cmp k)) es) =
+          ap (λ b. sum_by f (cond b es (e ∷ remove_entry (is_at (cmp k)) es))) n ∙ sum_by-cons f e (remove_entry (is_at (cmp k)) es) in
+      let b : adds k (found cmp (e ∷ es) k) ≡ adds k (found cmp es k) = ap (adds k) (found_later (is_at (cmp k)) e es n) in
+      omega arith)
+
+  pub sum_placed : (es : List (K × X)) (k : K) (w : Option X) → IsRising cmp es → sum_by f (placed cmp es k w) + adds k (found cmp es k) ≡ sum_by f es + adds k w
+  sum_placed es k None s = let h = sum_removed es k in omega arith
+  sum_placed es k (Some v) s = sum_put es k v s

@@ -3,7 +3,7 @@ use Rattle.std.proofs.Common.{◌≡◌, ℕ, ◌+◌, ◌-◌, ◌≤◌, Bool,
 use Rattle.std.specs.Cmp.{IsTotalOrder}
 use Rattle.std.specs.List.{sum_by, count_by}
 use Rattle.std.specs.List.Sorted.{IsStrictlySortedBy}
-use Rattle.std.specs.Map.{values_of}
+use Rattle.std.specs.Map.{remove_entry}
 use Rattle.std.specs.BTreeMap.{is_at, insert_entry}
 use Rattle.std.specs.Str.{bytes_eq}
 use Rattle.std.proofs.lemmas.Cmp.{nat_list_cmp_total, eq_by_cmp_equiv}
@@ -18,16 +18,18 @@ use Rattle.sdb_pairs.specs.Accounts.{ItemEntries, pairs_at}
 use Rattle.sdb_pairs.specs.Entries.{found, IsRising}
 use Rattle.sdb_pairs.specs.Pairs.{pair_cmp, is_named, merged}
 use Rattle.sdb_pairs.proofs.KeyLemmas.{by_bool}
-use Rattle.sdb_pairs.proofs.EntryLemmas.{found-insert, rising-placed, values-placed}
+use Rattle.sdb_pairs.proofs.EntryLemmas.{found-insert, found-placed, rising-placed}
 use Rattle.sdb_pairs.proofs.PairLemmas.{rising_merged, rising_none}
 use Rattle.sdb_pairs.proofs.StateLemmas.{key_at}
 use Rattle.sdb_domain.specs.declared.sums.Sums.{Sums}
-use Rattle.sdb_domain.specs.Held.{NameCounts, count_of, raised, lowered, recounted, Kept, with_row, nothing_kept, IsWhole}
+use Rattle.sdb_domain.specs.Held.{NameCounts, count_of, raised, lowered, recounted, Kept, with_row, nothing_kept, IsWhole, IsSwept, same, gone}
 use Rattle.sdb_domain.specs.Sums.{row_sums, no_sums, exchanged}
 use Rattle.sdb_domain.specs.declared.names.NameWas.{NameWas}
 use Rattle.sdb_domain.specs.Held.{name_undone}
-use Rattle.sdb_domain.specs.Keyed.{back, unwound}
-use Rattle.sdb_domain.proofs.EntryViews.{sum_inserted, weight_within, back_inserted}
+use Rattle.sdb_domain.specs.Keyed.{back, unwound, seen}
+use Rattle.sdb_pairs.specs.Changes.{item_with}
+use Rattle.sdb_domain.proofs.SeenLemmas.{seen-removed}
+use Rattle.sdb_domain.proofs.EntryViews.{sum_inserted, weight_within, back_inserted, sum_removed, adds}
 
 -- ---- counts of names
 
@@ -140,3 +142,45 @@ module _ (kept : Kept) (name : List ℕ) (key : List ℕ) (key_is : key ≡ name
           (λ j. back ((rows_are ∙ (λ l. insert_entry text_cmp kept.rows (key_is l) item)) j) (name_is j) was)
           ∙ back_inserted kept.rows name s item was (was_is ∙ ap (found text_cmp kept.rows) key_is) in
       λ i. record {rows = r i; names = back_names i; sums = kept.sums}
+
+-- ---- a row without pairs, and a name without pairs, taken out
+
+pub whole_swept : (kept : Kept) (name : List ℕ) (rows : ItemEntries) (names : NameCounts) → IsWhole kept → IsSwept kept.rows rows name → ((q : List ℕ) → count_of names q ≡ count_of kept.names q)
+    → IsWhole (record {rows = rows; names = names; sums = kept.sums})
+whole_swept kept name rows names whole (same e) counts = record {
+  rows_rise = subst (IsRising text_cmp) (sym e) whole.rows_rise;
+  counts = λ q. counts q ∙ whole.counts q ∙ ap (sum_by (λ row. count_by (is_named q) row.1)) (sym e);
+  items = whole.items ∙ ap (sum_by (λ row. (row_sums row).items)) (sym e);
+  item_bytes = whole.item_bytes ∙ ap (sum_by (λ row. (row_sums row).item_bytes)) (sym e);
+  pairs = whole.pairs ∙ ap (sum_by (λ row. (row_sums row).pairs)) (sym e);
+  value_bytes = whole.value_bytes ∙ ap (sum_by (λ row. (row_sums row).value_bytes)) (sym e);
+  weight = whole.weight ∙ ap (sum_by (λ row. (row_sums row).weight)) (sym e);
+}
+whole_swept kept name rows names whole (gone h e) counts = record {
+  rows_rise = subst (IsRising text_cmp) (sym e) (rising-placed nat_list_cmp_total kept.rows name None whole.rows_rise);
+  counts = λ q. counts q ∙ whole.counts q ∙ unmoved (λ row. count_by (is_named q) row.1) refl;
+  items = whole.items ∙ unmoved (λ row. (row_sums row).items) refl;
+  item_bytes = whole.item_bytes ∙ unmoved (λ row. (row_sums row).item_bytes) refl;
+  pairs = whole.pairs ∙ unmoved (λ row. (row_sums row).pairs) refl;
+  value_bytes = whole.value_bytes ∙ unmoved (λ row. (row_sums row).value_bytes) refl;
+  weight = whole.weight ∙ unmoved (λ row. (row_sums row).weight) refl;
+}
+  where
+    unmoved : (f : List ℕ × List Pair → ℕ) → f (name, []) ≡ 0 → sum_by f kept.rows ≡ sum_by f rows
+    unmoved f z =
+        let removed = sum_removed nat_list_cmp_total exact_bytes f kept.rows name in
+        let zero : adds nat_list_cmp_total exact_bytes f name (found text_cmp kept.rows name) ≡ 0 = ap (adds nat_list_cmp_total exact_bytes f name) h ∙ z in
+        let all : sum_by f rows ≡ sum_by f (remove_entry (is_at (text_cmp name)) kept.rows) = ap (sum_by f) e in
+        omega arith
+
+pub items_swept : (old new : ItemEntries) (name : List ℕ) → IsSwept old new name → seen item_with new ≡ seen item_with old
+items_swept old new name (same e) = ap (seen item_with) e
+items_swept old new name (gone h e) = ap (seen item_with) e ∙ seen-removed item_with old name [] h refl
+
+pub count_removed : (names : NameCounts) (k q : List ℕ) → IsRising text_cmp names → count_of names k ≡ 0 → count_of (remove_entry (is_at (text_cmp k)) names) q ≡ count_of names q
+count_removed names k q s z =
+    ap (λ o. unwrap_or o 0) (found-placed nat_list_cmp_total names k q None s)
+    ∙ by_bool (is_at (text_cmp q) k)
+    (λ at.
+    ap (λ b. unwrap_or (cond b None (found text_cmp names q)) 0) at ∙ sym z ∙ ap (count_of names) (sym (key_at exact_bytes q k at)))
+    (λ off. ap (λ b. unwrap_or (cond b None (found text_cmp names q)) 0) off)

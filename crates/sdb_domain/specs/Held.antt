@@ -2,8 +2,8 @@
 use Rattle.std.specs.Prelude.{◌≡◌, ℕ, ◌+◌, ◌-◌, List, [], ◌∷◌, Option, Some, None, fold, unwrap_or, All}
 use Rattle.std.specs.List.{sum_by, count_by}
 use Rattle.std.specs.List.Sorted.{IsStrictlySortedBy}
-use Rattle.std.specs.Map.{values_of}
-use Rattle.std.specs.BTreeMap.{insert_entry}
+use Rattle.std.specs.Map.{remove_entry}
+use Rattle.std.specs.BTreeMap.{is_at, insert_entry}
 use Rattle.sdb_base.specs.Texts.{text_cmp}
 use Rattle.sdb_pairs.specs.declared.pair.Pair.{Pair}
 use Rattle.sdb_pairs.specs.declared.op.Op.{Op}
@@ -67,3 +67,8 @@ pub record IsWhole (kept : Kept) : Type 0 where
   pub pairs : kept.sums.pairs ≡ sum_by (λ row. (row_sums row).pairs) kept.rows
   pub value_bytes : kept.sums.value_bytes ≡ sum_by (λ row. (row_sums row).value_bytes) kept.rows
   pub weight : kept.sums.weight ≡ sum_by (λ row. (row_sums row).weight) kept.rows
+
+-- the rows are the same, or a row without pairs went
+pub data IsSwept (old new : ItemEntries) (name : List ℕ) : Type 0 where
+  same : new ≡ old → IsSwept old new name
+  gone : found text_cmp old name ≡ Some [] → new ≡ remove_entry (is_at (text_cmp name)) old → IsSwept old new name

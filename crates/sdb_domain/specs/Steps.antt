@@ -1,14 +1,14 @@
 -- Steps on the accounts, and how they are taken back.
-use Rattle.std.specs.Prelude.{◌≡◌, ℕ, ◌-◌, ◌<◌, Bool, true, false, List, [], ◌∷◌, length, Option, Some, None, unwrap_or}
+use Rattle.std.specs.Prelude.{◌≡◌, ℕ, ◌-◌, ◌<◌, Bool, true, false, List, [], ◌∷◌, length, Option, Some, None, unwrap_or, set, ◌==◌, ◌&&◌, IfSome}
 use Rattle.std.specs.Map.{set_value}
 use Rattle.std.specs.BTreeMap.{is_at}
-use Rattle.std.specs.List.{set}
+use Rattle.std.specs.List.{list_any}
 use Rattle.sdb_base.specs.Texts.{text_cmp}
 use Rattle.sdb_pairs.specs.declared.change.Change.{Change}
 use Rattle.sdb_pairs.specs.declared.change.Change.TheVariants.{MakeDomain, DropDomain, Edit}
 use Rattle.sdb_pairs.specs.Accounts.{ItemEntries}
 use Rattle.sdb_pairs.specs.Changes.{edited}
-use Rattle.sdb_pairs.specs.Entries.{found, placed}
+use Rattle.sdb_pairs.specs.Entries.{found, placed, IsRising}
 use Rattle.sdb_domain.specs.declared.slot.Slot.{Slot}
 use Rattle.sdb_domain.specs.declared.slot.Slot.TheVariants.{Settled, Open, Dropped}
 use Rattle.sdb_domain.specs.declared.slot.Step.{Step}
@@ -17,7 +17,7 @@ use Rattle.sdb_domain.specs.declared.held.RowWas.{RowWas}
 use Rattle.sdb_domain.specs.declared.account.Undo.{Undo}
 use Rattle.sdb_domain.specs.Held.{Kept, items_kept, IsWhole}
 use Rattle.sdb_domain.specs.Keyed.{back, unwound}
-use Rattle.sdb_domain.specs.Slots.{Slots, domains_shown, AccountKept, IsWholeAccount, account_at}
+use Rattle.sdb_domain.specs.Slots.{Slots, domains_shown, AccountKept, IsWholeAccount, IsSettled, account_at}
 use Rattle.sdb_domain.specs.Undo.{row_undone}
 
 -- ---- which place a change is about
@@ -74,6 +74,13 @@ pub record Steps (old new : Slots) (name : List ℕ) (items : Option ItemEntries
   pub can : CanUndoStep new name step
   pub others : (q : List ℕ) → is_at (text_cmp q) name ≡ false → found text_cmp new q ≡ found text_cmp old q
 
+-- what closing a slot does: every domain stays, and nothing else changes
+pub record Settles (old new : Slots) (name : List ℕ) : Type 0 where
+  pub rises : IsRising text_cmp new
+  pub shown : domains_shown new ≡ domains_shown old
+  pub settled : IfSome (found text_cmp new name) IsSettled
+  pub others : (q : List ℕ) → is_at (text_cmp q) name ≡ false → found text_cmp new q ≡ found text_cmp old q
+
 -- ---- one account
 
 abbrev pub account_undone : AccountKept → Undo → AccountKept
@@ -87,15 +94,32 @@ pub record CanUndoAccount (account : AccountKept) (undo : Undo) : Type 0 where
 pub record AccountSteps (old new : AccountKept) (change : Change) (undo : Undo) : Type 0 where
   pub made : domains_shown new.slots ≡ placed text_cmp (domains_shown old.slots) (domain_of change) (items_after (found text_cmp (domains_shown old.slots) (domain_of change)) change)
   pub taken_back : account_undone new undo ≡ old
+  pub account : undo.account ≡ account_of change
+  pub name : undo.name ≡ domain_of change
   pub can : CanUndoAccount new undo
   pub others : (q : List ℕ) → is_at (text_cmp q) (domain_of change) ≡ false → found text_cmp new.slots q ≡ found text_cmp old.slots q
 
 -- ---- all accounts
 
-abbrev pub all_undone : List AccountKept → ℕ × Undo → List AccountKept
-all_undone accounts (account, undo) = set accounts (account - 1) (account_undone (account_at accounts (account - 1)) undo)
+abbrev pub all_undone : List AccountKept → Undo → List AccountKept
+all_undone accounts undo = set accounts (undo.account - 1) (account_undone (account_at accounts (undo.account - 1)) undo)
 
 -- each step of a log can be taken back in turn, the newest first; the newest stands last
-abbrev pub CanUndoAll : List AccountKept → List (ℕ × Undo) → Type 0
+abbrev pub CanUndoAll : List AccountKept → List Undo → Type 0
 CanUndoAll accounts [] = Unit {0}
-CanUndoAll accounts (step ∷ steps) = CanUndoAll accounts steps × CanUndoAccount (account_at (unwound all_undone accounts steps) (step.0 - 1)) step.1
+CanUndoAll accounts (undo ∷ undos) = CanUndoAll accounts undos × CanUndoAccount (account_at (unwound all_undone accounts undos) (undo.account - 1)) undo
+
+-- whether a step was about that domain of the account at that place
+abbrev pub touches : ℕ → List ℕ → Undo → Bool
+touches i name undo = (undo.account - 1 == i) && is_at (text_cmp name) undo.name
+
+-- no slot is open but those that steps of the log were about
+abbrev pub AreSettledBut : List AccountKept → List Undo → Type 0
+AreSettledBut accounts log = (i : ℕ) (name : List ℕ) → list_any (touches i name) log ≡ false → IfSome (found text_cmp (account_at accounts i).slots name) IsSettled
+
+-- what steps on the accounts keep, with the log that takes them back
+pub record Logs (old : List AccountKept) (old_log : List Undo) (new : List AccountKept) (new_log : List Undo) : Type 0 where
+  pub size : length new ≡ length old
+  pub taken_back : unwound all_undone new new_log ≡ unwound all_undone old old_log
+  pub can : CanUndoAll old old_log → CanUndoAll new new_log
+  pub settled : AreSettledBut old old_log → AreSettledBut new new_log

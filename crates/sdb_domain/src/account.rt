@@ -1,15 +1,17 @@
-ghost use Rattle.std.specs.Prelude.{◌≡◌, ◌+◌, ◌-◌, ◌<◌, IfOk, OnErr, length, IfSome, unwrap_or, is_some, cond};
+ghost use Rattle.std.specs.Prelude.{◌≡◌, ◌+◌, ◌-◌, ◌<◌, IfOk, OnErr, length, IfSome, option_map, false, List, ℕ};
 ghost use Rattle.std.specs.List.{sum_by};
+ghost use Rattle.std.specs.BTreeMap.{is_at};
 ghost use Rattle.sdb_base.specs.Texts.{text_cmp};
-ghost use Rattle.sdb_pairs.specs.Entries.{found};
-ghost use Rattle.sdb_domain.specs.Slots.{domains_shown, shown, count_shown, weight_shown};
-ghost use Rattle.sdb_domain.specs.Steps.{account_of, domain_of, items_after, Steps as StepsTo};
+ghost use Rattle.sdb_pairs.specs.Entries.{found, IsRising};
+ghost use Rattle.sdb_domain.specs.Slots.{domains_shown, shown, count_shown, weight_shown, weight_of_domain, IsSettled};
+ghost use Rattle.sdb_domain.specs.Steps.{account_of, domain_of, items_after, Steps as StepsTo, Settles};
 ghost use Rattle.sdb_domain.specs.Weights.{domain_weight};
 
+use crate::domain::Domain;
 use crate::keyed::Keyed;
-use crate::slot::{Slot, Step, drop_at, edit, make, undo};
+use crate::slot::{Slot, Step, drop_at, edit, make, settle, undo};
 use crate::sums::moved;
-use sdb_base::{OutOfMemory, Text};
+use sdb_base::{AccountId, OutOfMemory, Text};
 use sdb_pairs::Change;
 use std::alloc::Global;
 use std::marker::Model;
@@ -35,6 +37,7 @@ impl Model for Account {
 // What takes a change of an account back.
 #[derive(Debug, Drop)]
 pub(crate) struct Undo {
+    pub(crate) account: AccountId,
     name: Text,
     step: Step,
     count: u64,
@@ -74,6 +77,7 @@ impl Account {
             return Err(OutOfMemory);
         };
         let undo = Undo {
+            account: account_id(change),
             name,
             step,
             count: self.count,
@@ -84,12 +88,41 @@ impl Account {
         Ok(undo)
     }
 
+    // The domain of that name. No slot is open.
+    pub(crate) fn domain(&self, name: &Text) -> Option<&Domain>
+        requires { IfSome (found text_cmp self.now.slots name.now) IsSettled }
+        ensures { option_map (λ d. d.now) result ≡ found text_cmp (domains_shown self.now.slots) name.now }
+    {
+        let slot = self.slots.get(name)?;
+        settled_domain(slot)
+    }
+
+    pub(crate) fn count(&self) -> u64
+        ensures { result ≡ length (domains_shown self.now.slots) }
+    {
+        self.count
+    }
+
+    pub(crate) fn weight(&self) -> u64
+        ensures { result ≡ sum_by weight_of_domain (domains_shown self.now.slots) }
+    {
+        self.weight
+    }
+
+    // Closes the slot to edits that a change was about.
+    pub(crate) fn settle(&mut self, was: &Undo)
+        ensures { Settles self.old.slots self.new.slots was.now.name }
+    {
+        settle(&mut self.slots, &was.name, &was.step);
+    }
+
     // Takes a change back.
     pub(crate) fn undo(&mut self, was: Undo)
         requires { CanUndoAccount self.old was }
         ensures { self.new ≡ account_undone self.old was }
     {
         let Undo {
+            account: _,
             name,
             step,
             count,
@@ -101,6 +134,17 @@ impl Account {
     }
 }
 
+fn settled_domain(slot: &Slot) -> Option<&Domain>
+    requires { IsSettled slot.now }
+    ensures { option_map (λ d. d.now) result ≡ shown slot.now }
+{
+    match slot {
+        Slot::Settled(domain) => Some(domain),
+        Slot::Open(_) => None,
+        Slot::Dropped => None,
+    }
+}
+
 fn sums_after(sums: (u64, u64), old: (u64, u64), new: (u64, u64)) -> Option<(u64, u64)>
     ensures count { IfSome result (λ r. r.0 ≡ sums.0 + new.0 - old.0) }
     ensures weight { IfSome result (λ r. r.1 ≡ sums.1 + new.1 - old.1) }
@@ -109,6 +153,16 @@ fn sums_after(sums: (u64, u64), old: (u64, u64), new: (u64, u64)) -> Option<(u64
         moved(sums.0, old.0, new.0)?,
         moved(sums.1, old.1, new.1)?,
     ))
+}
+
+pub(crate) fn account_id(change: &Change) -> AccountId
+    ensures { result ≡ account_of change.now }
+{
+    match change {
+        Change::MakeDomain(account, _) => *account,
+        Change::DropDomain(account, _) => *account,
+        Change::Edit(account, _, _, _) => *account,
+    }
 }
 
 fn domain_name(change: &Change) -> &Text
@@ -140,6 +194,7 @@ fn step_slots(
 fn weigh(slots: &Keyed<Slot>, name: &Text) -> (u64, u64)
     ensures count { result.0 ≡ count_shown (found text_cmp (domains_shown slots.now) name.now) }
     ensures weight { result.1 ≡ weight_shown (found text_cmp (domains_shown slots.now) name.now) }
+    ensures rising { IsRising text_cmp slots.now }
 {
     match slots.get(name) {
         Some(slot) => weigh_slot(slot),

@@ -1,4 +1,5 @@
-ghost use Rattle.std.specs.Prelude.{◌≡◌, ◌+◌, option_map, length};
+ghost use Rattle.std.specs.Prelude.{◌≡◌, ◌+◌, option_map, length, List, ℕ};
+ghost use Rattle.sdb_pairs.specs.declared.pair.Pair.{Pair};
 ghost use Rattle.std.specs.Option.{option_copied};
 ghost use Rattle.sdb_base.specs.Texts.{text_cmp};
 ghost use Rattle.sdb_pairs.specs.Entries.{found};
@@ -51,7 +52,7 @@ impl Domain {
 
     /// The item of the least name above the given one, or of the least name of all. Counts one step.
     pub fn scan<L>(&self, after: Option<&Text>, items: &mut Steps<L>) -> Option<(&Text, &Item)>
-        ensures item { option_map (λ p. (p.0.now, p.1.now)) result ≡ least_after self.now (option_copied after.entry) }
+        ensures item { option_map {U = List ℕ × List Pair} (λ p. (p.0.now, p.1.now)) result ≡ least_after self.now (option_copied after.entry) }
         ensures ticks { items.new ≡ items.old + 1 }
     {
         items.tick();

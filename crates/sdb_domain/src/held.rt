@@ -1,4 +1,5 @@
-ghost use Rattle.std.specs.Prelude.{◌≡◌, IfOk, OnOk, OnErr, option_map, length};
+ghost use Rattle.std.specs.Prelude.{◌≡◌, IfOk, OnOk, OnErr, option_map, length, List, ℕ, [], true, Some};
+ghost use Rattle.sdb_pairs.specs.declared.pair.Pair.{Pair};
 ghost use Rattle.std.specs.Option.{option_copied};
 ghost use Rattle.sdb_domain.specs.LookUps.{least_after, held_text};
 ghost use Rattle.sdb_domain.specs.Weights.{domain_weight};
@@ -8,9 +9,10 @@ ghost use Rattle.sdb_pairs.specs.Changes.{item_with};
 ghost use Rattle.sdb_pairs.specs.Accounts.{pairs_at};
 ghost use Rattle.sdb_pairs.specs.Pairs.{merged};
 ghost use Rattle.sdb_domain.specs.Sums.{row_sums, exchanged};
+ghost use Rattle.sdb_domain.specs.Held.{IsSwept};
 
 use crate::keyed::Keyed;
-use crate::names::{NameWas, recount, unwind};
+use crate::names::{NameWas, recount, sweep_names, unwind};
 use crate::sums::Sums;
 use sdb_base::{OutOfMemory, Text};
 use sdb_pairs::{Item, Ops, merge};
@@ -123,7 +125,7 @@ impl Held {
     }
 
     pub(crate) fn scan(&self, after: Option<&Text>) -> Option<(&Text, &Item)>
-        ensures { option_map (λ p. (p.0.now, p.1.now)) result ≡ least_after (items_kept self.now) (option_copied after.entry) }
+        ensures { option_map {U = List ℕ × List Pair} (λ p. (p.0.now, p.1.now)) result ≡ least_after (items_kept self.now) (option_copied after.entry) }
     {
         for (name, item) in self.rows.range_after(after) {
             if !item.pairs().is_empty() {
@@ -139,6 +141,14 @@ impl Held {
         let (held, item) = self.rows.get_key_value(name)?;
         shown_item(item)?;
         Some(held)
+    }
+
+    // Takes out what an edit left hidden: a row without pairs, and names without pairs.
+    pub(crate) fn sweep(&mut self, was: &RowWas)
+        ensures { items_kept self.new ≡ items_kept self.old }
+    {
+        sweep_row(&mut self.rows, &was.name);
+        sweep_names(&mut self.names, was.names.as_slice());
     }
 
     // Takes an edit back.
@@ -176,4 +186,22 @@ fn shown_item(item: &Item) -> Option<&Item>
     ensures { option_map (λ i. i.now) result ≡ item_with item.now }
 {
     if item.pairs().is_empty() { None } else { Some(item) }
+}
+
+// Takes the row out, where it has no pairs.
+fn sweep_row(rows: &mut Keyed<Item>, name: &Text)
+    ensures { IsSwept rows.old rows.new name.now }
+{
+    if is_hidden(rows, name) {
+        rows.remove(name);
+    }
+}
+
+fn is_hidden(rows: &Keyed<Item>, name: &Text) -> bool
+    ensures { result ≡ true → found text_cmp rows.now name.now ≡ Some [] }
+{
+    match rows.get(name) {
+        Some(item) => item.pairs().is_empty(),
+        None => false,
+    }
 }

@@ -1,6 +1,6 @@
-ghost use Rattle.std.specs.Prelude.{◌≡◌, [], IfOk, OnOk, OnErr, Some, None, IfSome, option_map};
+ghost use Rattle.std.specs.Prelude.{◌≡◌, [], IfOk, OnOk, OnErr, option_map};
 ghost use Rattle.std.specs.Option.{option_copied};
-ghost use Rattle.std.specs.Map.{remove_entry, set_value};
+ghost use Rattle.std.specs.Map.{lookup_key, remove_entry, set_value};
 ghost use Rattle.std.specs.BTreeMap.{is_at, insert_entry};
 ghost use Rattle.sdb_base.specs.Texts.{text_cmp};
 ghost use Rattle.sdb_pairs.specs.Entries.{found, IsRising};
@@ -54,8 +54,8 @@ impl<V> Keyed<V> {
 
     // The stored key too.
     pub(crate) fn get_key_value(&self, key: &Text) -> Option<(&Text, &V)>
-        ensures key { IfSome (found text_cmp self.now key.now) (λ v. option_map (λ p. (p.0.now, p.1.now)) result ≡ Some (key.now, v)) }
-        ensures none { found text_cmp self.now key.now ≡ None → result ≡ None }
+        ensures key { option_map (λ p. p.0.now) result ≡ lookup_key (is_at (text_cmp key.now)) self.now }
+        ensures value { option_map (λ p. p.1.now) result ≡ found text_cmp self.now key.now }
     {
         self.map.get_key_value(key)
     }
@@ -95,6 +95,7 @@ impl<V: Drop> Keyed<V> {
     pub(crate) fn swap(&mut self, key: &Text, value: V) -> Option<V>
         ensures old { result ≡ found text_cmp self.old key.now }
         ensures new { self.new ≡ set_value (is_at (text_cmp key.now)) self.old value }
+        ensures rising { IsRising text_cmp self.old }
     {
         let held = self.map.get_mut(key)?;
         Some(replace(held, value))

@@ -2,6 +2,7 @@
 #![tactic(auto)]
 
 mod account;
+mod accounts;
 mod domain;
 mod held;
 mod keyed;
@@ -10,5 +11,6 @@ mod names;
 mod slot;
 mod sums;
 
+pub use accounts::Accounts;
 pub use domain::Domain;
 pub use metadata::Metadata;

@@ -1,7 +1,8 @@
-ghost use Rattle.std.specs.Prelude.{◌≡◌, ◌+◌, ◌-◌, fold, IfOk, OnOk, OnErr};
+ghost use Rattle.std.specs.Prelude.{◌≡◌, ◌+◌, ◌-◌, fold, IfOk, OnOk, OnErr, List, ℕ};
 ghost use Rattle.std.specs.BTreeMap.{insert_entry};
 ghost use Rattle.std.specs.List.Sorted.{IsStrictlySortedBy};
 ghost use Rattle.sdb_base.specs.Texts.{text_cmp};
+ghost use Rattle.sdb_pairs.specs.Entries.{IsRising};
 
 use crate::keyed::Keyed;
 use sdb_base::{OutOfMemory, Text};
@@ -88,7 +89,8 @@ fn raise(
 }
 
 fn count_of(names: &Keyed<u64>, name: &Text) -> u64
-    ensures { result ≡ count_of names.now name.now }
+    ensures count { result ≡ count_of names.now name.now }
+    ensures rising { IsRising text_cmp names.now }
 {
     names.get(name).copied().unwrap_or(0)
 }
@@ -118,5 +120,22 @@ pub(crate) fn unwind(names: &mut Keyed<u64>, mut log: Vec<NameWas>)
 {
     while let Some(was) = log.pop() {
         names.back(&was.name, was.count);
+    }
+}
+
+// Takes out the names of the log that have no pairs.
+pub(crate) fn sweep_names(names: &mut Keyed<u64>, log: &[NameWas])
+    ensures { (name : List ℕ) → count_of names.new name ≡ count_of names.old name }
+{
+    for was in log {
+        sweep_name(names, &was.name);
+    }
+}
+
+fn sweep_name(names: &mut Keyed<u64>, name: &Text)
+    ensures { (q : List ℕ) → count_of names.new q ≡ count_of names.old q }
+{
+    if count_of(names, name) == 0 {
+        names.remove(name);
     }
 }

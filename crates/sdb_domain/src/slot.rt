@@ -1,10 +1,10 @@
 ghost use Rattle.std.specs.Prelude.{◌≡◌, ◌<◌, IfOk, OnErr, Some, None, unwrap_or, is_some, IsSome, IsOk, []};
 ghost use Rattle.sdb_base.specs.Texts.{text_cmp};
 ghost use Rattle.sdb_pairs.specs.Changes.{edited};
-ghost use Rattle.sdb_pairs.specs.Entries.{found};
+ghost use Rattle.sdb_pairs.specs.Entries.{found, IsRising};
 ghost use Rattle.sdb_domain.specs.Held.{items_kept};
 ghost use Rattle.sdb_domain.specs.Slots.{shown, domains_shown};
-ghost use Rattle.sdb_domain.specs.Steps.{closed, step_undone, CanUndoStep, CanUndoRow, row_step_undone, Steps as StepsTo};
+ghost use Rattle.sdb_domain.specs.Steps.{closed, step_undone, CanUndoStep, CanUndoRow, row_step_undone, Steps as StepsTo, Settles};
 
 use crate::domain::Domain;
 use crate::held::{Held, RowWas};
@@ -44,7 +44,8 @@ impl Slot {
 }
 
 fn is_live(slots: &Keyed<Slot>, name: &Text) -> bool
-    ensures { result ≡ is_some (found text_cmp (domains_shown slots.now) name.now) }
+    ensures live { result ≡ is_some (found text_cmp (domains_shown slots.now) name.now) }
+    ensures rising { IsRising text_cmp slots.now }
 {
     match slots.get(name) {
         Some(slot) => shows(slot),
@@ -153,7 +154,7 @@ fn edit_live(
 fn opened(slot: Slot) -> Result<(bool, Held), OutOfMemory>
     requires { IsSome (shown slot) }
     ensures there { IsOk result }
-    ensures same { IfOk result (λ open. closed open.0 open.1 ≡ slot) }
+    ensures same { IfOk result (λ r. closed r.0 r.1 ≡ slot) }
 {
     match slot {
         Slot::Settled(domain) => Ok((true, domain.into_held())),
@@ -186,4 +187,34 @@ fn undo_row(slots: &mut Keyed<Slot>, name: &Text, settled: bool, was: RowWas)
         held.undo(was);
         slots.swap(name, Slot::closed(settled, held));
     }
+}
+
+// Closes the slot of that name to edits, and sweeps what the step left hidden; a dropped one goes.
+pub(crate) fn settle(slots: &mut Keyed<Slot>, name: &Text, step: &Step)
+    ensures { Settles slots.old slots.new name.now }
+{
+    let Some(slot) = slots.swap(name, Slot::Dropped) else {
+        return;
+    };
+    match slot {
+        Slot::Settled(domain) => {
+            let held = swept(domain.into_held(), step);
+            slots.swap(name, Slot::Settled(Domain::of(held)));
+        }
+        Slot::Open(held) => {
+            let held = swept(held, step);
+            slots.swap(name, Slot::Settled(Domain::of(held)));
+        }
+        Slot::Dropped => slots.remove(name),
+    }
+}
+
+fn swept(held: Held, step: &Step) -> Held
+    ensures { items_kept result ≡ items_kept held }
+{
+    let mut held = held;
+    if let Step::Row(_, was) = step {
+        held.sweep(was);
+    }
+    held
 }
