@@ -1,5 +1,5 @@
 -- The sums that a domain keeps are those of the items that are seen.
-use Rattle.std.proofs.Common.{◌≡◌, ℕ, ◌+◌, List, [], ◌∷◌, length, Option, Some, None, refl, sym, ap, ◌∙◌, arith, unwrap_or}
+use Rattle.std.proofs.Common.{◌≡◌, ℕ, ◌+◌, List, [], ◌∷◌, length, Option, Some, None, refl, sym, ap, ◌∙◌, arith, unwrap_or, cond, is_some}
 use Rattle.std.specs.List.{sum_by}
 use Rattle.std.proofs.lemmas.List.Sums.{sum_by-cons}
 use Rattle.sdb_base.specs.Texts.{text_cmp}
@@ -11,6 +11,7 @@ use Rattle.sdb_pairs.specs.Entries.{found, placed, IsRising}
 use Rattle.sdb_pairs.specs.Pairs.{merged}
 use Rattle.sdb_domain.specs.Held.{Kept, IsWhole, items_kept, with_row}
 use Rattle.sdb_domain.specs.Keyed.{seen}
+use Rattle.sdb_domain.specs.LookUps.{held_text}
 use Rattle.sdb_domain.specs.Sums.{row_sums}
 use Rattle.sdb_domain.specs.Weights.{item_weight, domain_weight}
 use Rattle.sdb_domain.proofs.SeenLemmas.{seen_of, found-seen, seen-put, sum-seen, shown_weight}
@@ -52,3 +53,6 @@ pub edited_kept : (kept : Kept) (name : List ℕ) (ops : List Op) → IsRising t
 edited_kept kept name ops s =
     seen-put item_with kept.rows name (merged (pairs_at kept.rows name) ops) s
     ∙ ap (λ ps. placed text_cmp (items_kept kept) name (item_with (merged ps ops))) (sym (pairs_kept kept name s))
+
+pub held_as : (items : ItemEntries) (name : List ℕ) (o : Option (List Pair)) → o ≡ found text_cmp items name → cond (is_some o) (Some name) None ≡ held_text items name
+held_as items name o e = ap (λ x. cond (is_some x) (Some name) None) e

@@ -1,5 +1,5 @@
 -- Steps on all accounts, with the log that takes them back.
-use Rattle.std.proofs.Common.{◌≡◌, ℕ, zero, suc, ◌+◌, ◌-◌, ◌<◌, ◌==◌, Bool, true, false, cond, ◌&&◌, ◌||◌, List, [], ◌∷◌, ◌++◌, length, set, get_or, Option, Some, None, refl, sym, ap, ◌∙◌, subst, arith, true≢false, IfSome, eq-eqb}
+use Rattle.std.proofs.Common.{◌≡◌, ℕ, zero, suc, ◌+◌, ◌-◌, ◌<◌, ◌==◌, Bool, true, false, cond, ◌&&◌, ◌||◌, List, [], ◌∷◌, ◌++◌, length, set, get_or, replicate, Option, Some, None, refl, sym, ap, ◌∙◌, subst, arith, true≢false, IfSome, eq-eqb}
 use Rattle.std.specs.BTreeMap.{is_at}
 use Rattle.std.specs.List.{list_any}
 use Rattle.std.proofs.lemmas.Map.Lookups.{exact_bytes}
@@ -8,12 +8,15 @@ use Rattle.sdb_pairs.proofs.StateLemmas.{key_at}
 use Rattle.std.proofs.lemmas.List.Folds.{list_any-append}
 use Rattle.sdb_base.specs.Texts.{text_cmp}
 use Rattle.sdb_pairs.specs.declared.change.Change.{Change}
+use Rattle.std.specs.List.Sorted.{IsStrictlySortedBy}
+use Rattle.std.proofs.lemmas.List.Elements.{All-nil}
+use Rattle.sdb_pairs.specs.Accounts.{AreItems, AreAccounts}
 use Rattle.sdb_pairs.specs.Changes.{after}
 use Rattle.sdb_pairs.specs.Entries.{found}
 use Rattle.sdb_pairs.proofs.KeyLemmas.{by_bool}
 use Rattle.sdb_domain.specs.declared.account.Undo.{Undo}
 use Rattle.sdb_domain.specs.Keyed.{unwound}
-use Rattle.sdb_domain.specs.Slots.{AccountKept, no_account, account_at, accounts_shown, domains_shown, IsSettled}
+use Rattle.sdb_domain.specs.Slots.{AccountKept, no_account, account_at, accounts_shown, domains_shown, IsSettled, AreKept}
 use Rattle.sdb_domain.specs.Steps.{AccountSteps, account_of, domain_of, account_undone, all_undone, CanUndoAll, CanUndoAccount, AreSettledBut, touches, Logs, Settles}
 use Rattle.sdb_domain.proofs.EntryViews.{unwound_more}
 use Rattle.sdb_domain.proofs.NumberLemmas.{change_shown, settled_one_shown}
@@ -50,10 +53,10 @@ set_length [] (suc i) a = refl
 set_length (x ∷ all) zero a = refl
 set_length (x ∷ all) (suc i) a = ap (λ n. suc n) (set_length all i a)
 
-pub at_is : (all : List AccountKept) (i : ℕ) (a : AccountKept) → i < length all → a ≡ get_or all i a → account_at all i ≡ a
-at_is [] i a lt e = absurd (omega arith)
-at_is (x ∷ all) zero a lt e = sym e
-at_is (x ∷ all) (suc i) a lt e = at_is all i a (omega arith) e
+pub at_get : (all : List AccountKept) (i : ℕ) (d : AccountKept) → i < length all → account_at all i ≡ get_or all i d
+at_get [] i d lt = absurd (omega arith)
+at_get (x ∷ all) zero d lt = refl
+at_get (x ∷ all) (suc i) d lt = at_get all i d (omega arith)
 
 -- ---- what a log can take back
 
@@ -170,3 +173,20 @@ settle_rest old i new u more lt place settles h j name free =
     and_false : (a : Bool) → (a && false) ≡ false
     and_false true = refl
     and_false false = refl
+
+-- ---- no account has a domain
+
+none_at : (n i : ℕ) → account_at (replicate n no_account) i ≡ no_account
+none_at zero i = refl
+none_at (suc n) zero = refl
+none_at (suc n) (suc i) = none_at n i
+
+none_are_accounts : AreAccounts []
+unfolding IsStrictlySortedBy
+none_are_accounts = record { rising = tt; each = All-nil AreItems }
+
+pub none_kept : AreKept (replicate 16 no_account)
+none_kept = record {
+  settled = λ i name. subst (λ (a : AccountKept). IfSome (found text_cmp a.slots name) IsSettled) (sym (none_at 16 i)) tt;
+  lawful = none_are_accounts;
+}

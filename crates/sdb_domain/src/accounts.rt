@@ -124,10 +124,8 @@ fn step(
     log.reserve(1)?;
     let place = index_of(account_id(change));
     let undo = accounts[place].step(alloc, change)?;
-    match log.push(undo) {
-        Ok(()) => Ok(()),
-        Err(_) => Err(OutOfMemory),
-    }
+    log.push(undo)?;
+    Ok(())
 }
 
 // Takes back every step of the log, the newest first.

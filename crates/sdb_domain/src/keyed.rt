@@ -1,6 +1,6 @@
-ghost use Rattle.std.specs.Prelude.{◌≡◌, [], IfOk, OnOk, OnErr, option_map};
+ghost use Rattle.std.specs.Prelude.{◌≡◌, [], IfOk, OnOk, OnErr, IfSome, option_map};
 ghost use Rattle.std.specs.Option.{option_copied};
-ghost use Rattle.std.specs.Map.{lookup_key, remove_entry, set_value};
+ghost use Rattle.std.specs.Map.{remove_entry, set_value};
 ghost use Rattle.std.specs.BTreeMap.{is_at, insert_entry};
 ghost use Rattle.sdb_base.specs.Texts.{text_cmp};
 ghost use Rattle.sdb_pairs.specs.Entries.{found, IsRising};
@@ -54,7 +54,7 @@ impl<V> Keyed<V> {
 
     // The stored key too.
     pub(crate) fn get_key_value(&self, key: &Text) -> Option<(&Text, &V)>
-        ensures key { option_map (λ p. p.0.now) result ≡ lookup_key (is_at (text_cmp key.now)) self.now }
+        ensures key { IfSome result (λ p. p.0.now ≡ key.now) }
         ensures value { option_map (λ p. p.1.now) result ≡ found text_cmp self.now key.now }
     {
         self.map.get_key_value(key)
