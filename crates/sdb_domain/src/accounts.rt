@@ -65,6 +65,7 @@ impl Accounts {
     pub fn apply(&mut self, changes: &Changes) -> Result<(), OutOfMemory>
         ensures ok { OnOk result (self.new ≡ state self.old changes.now) }
         ensures err { OnErr result (self.new ≡ self.old) }
+        ensures accounts { AreAccounts self.old }
     {
         let mut log = Vec::new(self.alloc);
         match step_all(&mut self.accounts, self.alloc, changes.as_slice(), &mut log) {
