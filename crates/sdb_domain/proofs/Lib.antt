@@ -4,6 +4,7 @@ pub mod ItemSums
 pub mod LogLemmas
 pub mod NameLemmas
 pub mod NumberLemmas
+pub mod RangeLemmas
 pub mod SeenLemmas
 pub mod SlotLemmas
 pub mod WholeLemmas

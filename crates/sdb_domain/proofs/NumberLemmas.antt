@@ -1,10 +1,15 @@
 -- The domains of all accounts as one list: what is found in it, and what a change of one account makes of it.
-use Rattle.std.proofs.Common.{◌≡◌, ℕ, zero, suc, ◌+◌, ◌<◌, ◌≤◌, Bool, true, false, cond, List, [], ◌∷◌, ◌++◌, length, map, set, Option, Some, None, Ordering, Less, Equal, Greater, refl, sym, ap, ◌∙◌, subst, is_eq, arith, nat_cmp}
+use Rattle.std.proofs.Common.{◌≡◌, ℕ, zero, suc, ◌+◌, ◌==◌, ◌<◌, ◌≤◌, filter, slice_get, option_map, is_lt, eq-eqb, Bool, true, false, cond, List, [], ◌∷◌, ◌++◌, length, map, set, Option, Some, None, Ordering, Less, Equal, Greater, refl, sym, ap, ◌∙◌, subst, is_eq, arith, nat_cmp}
 use Rattle.std.specs.Cmp.{nat_cmp_is}
 use Rattle.std.specs.Ordering.{ordering_then, match_ordering}
 use Rattle.std.specs.Map.{remove_entry}
 use Rattle.std.specs.BTreeMap.{is_at, insert_entry}
-use Rattle.std.specs.List.{AllByRecursion}
+use Rattle.std.specs.List.{AllByRecursion, sum_by}
+use Rattle.std.proofs.lemmas.Bool.{eqb-true}
+use Rattle.std.proofs.lemmas.List.Sums.{sum_by-cons}
+use Rattle.sdb_pairs.proofs.KeyLemmas.{by_bool}
+use Rattle.sdb_domain.specs.LookUps.{name_after, least_after}
+use Rattle.sdb_domain.specs.Weights.{domain_weight, domains_of, account_weight}
 use Rattle.std.proofs.lemmas.Cmp.{tied_itself, nat_cmp_total}
 use Rattle.sdb_base.specs.Texts.{text_cmp}
 use Rattle.sdb_pairs.specs.declared.change.Change.{Change}
@@ -12,7 +17,7 @@ use Rattle.sdb_pairs.specs.declared.change.Change.TheVariants.{MakeDomain, DropD
 use Rattle.sdb_pairs.specs.Accounts.{ItemEntries, DomainEntries, domain_cmp, items_of}
 use Rattle.sdb_pairs.specs.Changes.{after}
 use Rattle.sdb_pairs.specs.Entries.{found, placed}
-use Rattle.sdb_domain.specs.Slots.{Domains, domains_shown, AccountKept, no_account, numbered, accounts_shown, account_at}
+use Rattle.sdb_domain.specs.Slots.{Domains, domains_shown, AccountKept, no_account, numbered, accounts_shown, account_at, weight_of_domain}
 use Rattle.sdb_domain.specs.Steps.{account_of, domain_of, items_after}
 
 -- ---- entries in front of a key, and behind it
@@ -182,3 +187,86 @@ settled_one_shown accounts i new lt e = ap (numbered 1) (same_at accounts i new 
     same_at [] j a l h = absurd (omega arith)
     same_at (x ∷ all) zero a l h = ap (λ ds. ds ∷ all_shown all) h
     same_at (x ∷ all) (suc j) a l h = ap (λ ds. domains_shown x.slots ∷ ds) (same_at all j a (omega arith) h)
+
+-- ---- the domains of one account, in the list of all
+
+filter_append : (p : (ℕ × List ℕ) × ItemEntries → Bool) (xs ys : DomainEntries) → filter p (xs ++ ys) ≡ filter p xs ++ filter p ys
+filter_append p [] ys = refl
+filter_append p (x ∷ xs) ys =
+    let ih = filter_append p xs ys in
+    elim (p x) as (λ b. cond b (x ∷ filter p (xs ++ ys)) (filter p (xs ++ ys)) ≡ cond b (x ∷ filter p xs) (filter p xs) ++ filter p ys) [ true ↦ ap (λ l. x ∷ l) ih | false ↦ ih ]
+
+all_of_one : (n m : ℕ) (ds : Domains) → (n == m) ≡ true → filter (λ domain. domain.0.0 == m) (tagged n ds) ≡ tagged n ds
+all_of_one n m [] e = refl
+all_of_one n m (d ∷ ds) e =
+    ap (λ b. cond b (((n, d.0), d.1) ∷ filter (λ domain. domain.0.0 == m) (tagged n ds)) (filter (λ domain. domain.0.0 == m) (tagged n ds))) e ∙ ap (λ l. ((n, d.0), d.1) ∷ l) (all_of_one n m ds e)
+
+none_of_one : (n m : ℕ) (ds : Domains) → (n == m) ≡ false → filter (λ domain. domain.0.0 == m) (tagged n ds) ≡ []
+none_of_one n m [] e = refl
+none_of_one n m (d ∷ ds) e =
+    ap (λ b. cond b (((n, d.0), d.1) ∷ filter (λ domain. domain.0.0 == m) (tagged n ds)) (filter (λ domain. domain.0.0 == m) (tagged n ds))) e ∙ none_of_one n m ds e
+
+other_number : (n m : ℕ) → (n ≡ m → ⊥) → (n == m) ≡ false
+other_number n m ne = by_bool (n == m) (λ t. absurd (ne (eqb-true n m t))) (λ f. f)
+
+none_of_more : (all : List Domains) (n m : ℕ) → m < n → filter (λ domain. domain.0.0 == m) (numbered n all) ≡ []
+none_of_more [] n m lt = refl
+none_of_more (ds ∷ more) n m lt =
+    filter_append (λ domain. domain.0.0 == m) (tagged n ds) (numbered (n + 1) more)
+    ∙ ap (λ l. l ++ filter (λ domain. domain.0.0 == m) (numbered (n + 1) more)) (none_of_one n m ds (other_number n m (λ e. omega arith)))
+    ∙ none_of_more more (n + 1) m (omega arith)
+
+tagged_end : (xs : DomainEntries) → xs ++ [] ≡ xs
+tagged_end [] = refl
+tagged_end (x ∷ xs) = ap (λ l. x ∷ l) (tagged_end xs)
+
+filter_numbered : (all : List Domains) (n i m : ℕ) → m ≡ n + i → filter (λ domain. domain.0.0 == m) (numbered n all) ≡ tagged m (domains_at all i)
+filter_numbered [] n i m e = refl
+filter_numbered (ds ∷ more) n zero m e =
+    let same : n ≡ m = omega arith in
+    filter_append (λ domain. domain.0.0 == m) (tagged n ds) (numbered (n + 1) more)
+    ∙ ap (λ l. filter (λ domain. domain.0.0 == m) (tagged n ds) ++ l) (none_of_more more (n + 1) m (omega arith))
+    ∙ tagged_end (filter (λ domain. domain.0.0 == m) (tagged n ds))
+    ∙ all_of_one n m ds (eq-eqb n m same)
+    ∙ ap (λ k. tagged k ds) same
+filter_numbered (ds ∷ more) n (suc i) m e =
+    filter_append (λ domain. domain.0.0 == m) (tagged n ds) (numbered (n + 1) more)
+    ∙ ap (λ l. l ++ filter (λ domain. domain.0.0 == m) (numbered (n + 1) more)) (none_of_one n m ds (other_number n m (λ same. omega arith)))
+    ∙ filter_numbered more (n + 1) i m (omega arith)
+
+pub domains_of_account : (accounts : List AccountKept) (i account : ℕ) → account ≡ 1 + i → domains_of (accounts_shown accounts) account ≡ map (λ domain. ((account, domain.0), domain.1)) (domains_shown (account_at accounts i).slots)
+domains_of_account accounts i account e = filter_numbered (all_shown accounts) 1 i account e ∙ ap (tagged account) (shown_at accounts i)
+
+tagged_length : (n : ℕ) (ds : Domains) → length (tagged n ds) ≡ length ds
+tagged_length n [] = refl
+tagged_length n (d ∷ ds) = ap (λ k. suc k) (tagged_length n ds)
+
+tagged_weight : (n : ℕ) (ds : Domains) → sum_by (λ domain. domain_weight domain.1) (tagged n ds) ≡ sum_by weight_of_domain ds
+tagged_weight n [] = refl
+tagged_weight n (d ∷ ds) =
+    sum_by-cons (λ domain. domain_weight domain.1) ((n, d.0), d.1) (tagged n ds) ∙ ap (λ k. domain_weight d.1 + k) (tagged_weight n ds) ∙ sym (sum_by-cons weight_of_domain d ds)
+
+pub count_of_account : (accounts : List AccountKept) (i account : ℕ) → account ≡ 1 + i → length (domains_of (accounts_shown accounts) account) ≡ length (domains_shown (account_at accounts i).slots)
+count_of_account accounts i account e = ap length (domains_of_account accounts i account e) ∙ tagged_length account (domains_shown (account_at accounts i).slots)
+
+pub weight_of_account : (accounts : List AccountKept) (i account : ℕ) → account ≡ 1 + i → account_weight (accounts_shown accounts) account ≡ sum_by weight_of_domain (domains_shown (account_at accounts i).slots)
+weight_of_account accounts i account e = ap (sum_by (λ domain. domain_weight domain.1)) (domains_of_account accounts i account e) ∙ tagged_weight account (domains_shown (account_at accounts i).slots)
+
+tagged_after : (n : ℕ) (name : List ℕ) (ds : Domains) → filter (λ domain. is_lt (text_cmp name domain.0.1)) (tagged n ds) ≡ tagged n (filter (λ e. is_lt (text_cmp name e.0)) ds)
+tagged_after n name [] = refl
+tagged_after n name (d ∷ ds) =
+    let ih = tagged_after n name ds in
+    elim (is_lt (text_cmp name d.0)) as (λ b. cond b (((n, d.0), d.1) ∷ filter (λ domain. is_lt (text_cmp name domain.0.1)) (tagged n ds)) (filter (λ domain. is_lt (text_cmp name domain.0.1)) (tagged n ds)) ≡ tagged n (cond b (d ∷ filter (λ e. is_lt (text_cmp name e.0)) ds) (filter (λ e. is_lt (text_cmp name e.0)) ds)))
+    [ true ↦ ap (λ l. ((n, d.0), d.1) ∷ l) ih | false ↦ ih ]
+
+first_name : (n : ℕ) (ds : Domains) → option_map (λ domain. domain.0.1) (slice_get (tagged n ds) 0) ≡ option_map (λ domain. domain.0) (slice_get ds 0)
+first_name n [] = refl
+first_name n (d ∷ ds) = refl
+
+pub name_after_account : (accounts : List AccountKept) (i account : ℕ) (after : Option (List ℕ)) → account ≡ 1 + i → name_after (accounts_shown accounts) account after ≡ option_map (λ domain. domain.0) (least_after (domains_shown (account_at accounts i).slots) after)
+name_after_account accounts i account None e =
+    ap (λ l. option_map (λ domain. domain.0.1) (slice_get l 0)) (domains_of_account accounts i account e) ∙ first_name account (domains_shown (account_at accounts i).slots)
+name_after_account accounts i account (Some name) e =
+    ap (λ l. option_map (λ domain. domain.0.1) (slice_get (filter (λ domain. is_lt (text_cmp name domain.0.1)) l) 0)) (domains_of_account accounts i account e)
+    ∙ ap (λ l. option_map (λ domain. domain.0.1) (slice_get l 0)) (tagged_after account name (domains_shown (account_at accounts i).slots))
+    ∙ first_name account (filter (λ d. is_lt (text_cmp name d.0)) (domains_shown (account_at accounts i).slots))

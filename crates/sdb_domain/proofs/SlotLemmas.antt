@@ -109,7 +109,7 @@ module _ (old : Slots) (name : List ℕ) (s : IsRising text_cmp old) where
 
 -- ---- by what each step of the code gives
 
-some_given : (o : Option ItemEntries) → is_some o ≡ true → o ≡ Some (unwrap_or o [])
+pub some_given : (o : Option ItemEntries) → is_some o ≡ true → o ≡ Some (unwrap_or o [])
 some_given None h = absurd (true≢false (sym h))
 some_given (Some items) h = refl
 

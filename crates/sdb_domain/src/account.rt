@@ -1,5 +1,7 @@
 ghost use Rattle.std.specs.Prelude.{◌≡◌, ◌+◌, ◌-◌, ◌<◌, IfOk, OnErr, length, IfSome, option_map, false, List, ℕ};
 ghost use Rattle.std.specs.List.{sum_by};
+ghost use Rattle.std.specs.Option.{option_copied};
+ghost use Rattle.sdb_domain.specs.LookUps.{least_after};
 ghost use Rattle.std.specs.BTreeMap.{is_at};
 ghost use Rattle.sdb_base.specs.Texts.{text_cmp};
 ghost use Rattle.sdb_pairs.specs.Entries.{found, IsRising};
@@ -9,7 +11,7 @@ ghost use Rattle.sdb_domain.specs.Weights.{domain_weight};
 
 use crate::domain::Domain;
 use crate::keyed::Keyed;
-use crate::slot::{Slot, Step, drop_at, edit, make, settle, undo};
+use crate::slot::{Slot, Step, drop_at, edit, make, settle, shows, undo};
 use crate::sums::moved;
 use sdb_base::{AccountId, OutOfMemory, Text};
 use sdb_pairs::Change;
@@ -95,6 +97,17 @@ impl Account {
     {
         let slot = self.slots.get(name)?;
         settled_domain(slot)
+    }
+
+    pub(crate) fn domain_after(&self, after: Option<&Text>) -> Option<&Text>
+        ensures { option_map (λ t. t.now) result ≡ option_map (λ domain. domain.0) (least_after (domains_shown self.now.slots) (option_copied after.entry)) }
+    {
+        for (name, slot) in self.slots.range_after(after) {
+            if shows(slot) {
+                return Some(name);
+            }
+        }
+        None
     }
 
     pub(crate) fn count(&self) -> u64

@@ -59,6 +59,27 @@ impl Accounts {
         self.accounts[index_of(account)].domain(name)
     }
 
+    /// The name of the account's domain of the least name above the given one, or of the least name of all.
+    pub fn domain_after(&self, account: AccountId, name: Option<&Text>) -> Option<&Text>
+        ensures { option_map (λ t. t.now) result ≡ name_after self.now account (option_copied name.entry) }
+    {
+        self.accounts[index_of(account)].domain_after(name)
+    }
+
+    /// How many domains the account has.
+    pub fn domain_count(&self, account: AccountId) -> u64
+        ensures { result ≡ length (domains_of self.now account) }
+    {
+        self.accounts[index_of(account)].count()
+    }
+
+    /// The weight of the account's domains, each of which weighs what its items weigh.
+    pub fn weight(&self, account: AccountId) -> u64
+        ensures { result ≡ account_weight self.now account }
+    {
+        self.accounts[index_of(account)].weight()
+    }
+
     /// Applies all changes in order, or none. Making a domain that is there and dropping one that isn't
     /// change nothing; dropping one takes its items with it, and an edit makes its domain first. An item
     /// without pairs isn't there. No limit is checked.

@@ -128,7 +128,7 @@ impl Held {
         ensures { option_map {U = List ℕ × List Pair} (λ p. (p.0.now, p.1.now)) result ≡ least_after (items_kept self.now) (option_copied after.entry) }
     {
         for (name, item) in self.rows.range_after(after) {
-            if !item.pairs().is_empty() {
+            if let Some(item) = shown_item(item) {
                 return Some((name, item));
             }
         }

@@ -53,7 +53,8 @@ fn is_live(slots: &Keyed<Slot>, name: &Text) -> bool
     }
 }
 
-fn shows(slot: &Slot) -> bool
+// Whether the slot shows a domain.
+pub(crate) fn shows(slot: &Slot) -> bool
     ensures { result ≡ is_some (shown slot.now) }
 {
     match slot {
