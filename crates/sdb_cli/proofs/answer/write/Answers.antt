@@ -8,5 +8,5 @@ use Rattle.sdb_cli.proofs.answer.write.Goals as goal
 pub returns-clause-accounts : goal.returns-clause-accounts
 returns-clause-accounts c =
     let before = c.args.accounts.now in
-    let done : write before account c.args.request.now ≡ Ok c.apply.new.self = decided-done before c.apply.new.self account c.args.request.now c.in-Ok.changes c.requires c.apply.ensures.rising c.in-Ok.ensures.answer c.in_ok-apply-in-Ok.ensures.ok in
+    let done : write before account c.args.request.now ≡ Ok c.apply.new.self = decided-done before c.apply.new.self account c.args.request.now c.in-Ok.changes c.requires c.apply.ensures.accounts c.in-Ok.ensures.answer c.in_ok-apply-in-Ok.ensures.ok in
     on_ok_weaker c.append_success.result (λ _. sym (ap (after_written before) done)) c.append_success.ensures
