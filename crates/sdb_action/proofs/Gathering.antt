@@ -1,5 +1,5 @@
 -- The members read so far, before those that are left.
-use Rattle.std.proofs.Common.{◌≡◌, ℕ, suc, ◌<◌, List, [], ◌∷◌, ◌++◌, Result, Ok, Err, refl, sym, ap, ◌∙◌, inl, inr, length, drop, drop-cons, get_or}
+use Rattle.std.proofs.Common.{◌≡◌, ℕ, suc, ◌<◌, List, ◌∷◌, ◌++◌, Result, Ok, Err, sym, ap, ◌∙◌, inl, inr, length, drop, drop-cons, get_or}
 use Rattle.sdb_tables.specs.Answers.{Answers}
 use Rattle.sdb_tables.specs.declared.refusal.Refusal.{Refusal}
 use Rattle.sdb_action.specs.Steps.{before_rest, each}

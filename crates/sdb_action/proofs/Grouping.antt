@@ -7,7 +7,7 @@ use Rattle.std.proofs.lemmas.Option.{get_or_from_slice_get, slice_get_within}
 use Rattle.sdb_base.specs.Pairs.{NamedValues, value_of}
 use Rattle.sdb_action.specs.declared.numbers.EntryKind.{EntryKind}
 use Rattle.sdb_action.specs.Numbers.{Part, part_of}
-use Rattle.sdb_action.specs.Entries.{value_at, part_in, with_new, first_values, parts_at, there, entry_at}
+use Rattle.sdb_action.specs.Entries.{value_at, part_in, with_new, first_values, there, entry_at}
 
 unwrap-there : (parts : NamedValues) → unwrap_or (there parts) [] ≡ parts
 unwrap-there [] = refl

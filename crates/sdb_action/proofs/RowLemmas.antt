@@ -1,11 +1,11 @@
 -- The rows that the program holds are those of the tables.
-use Rattle.std.proofs.Common.{◌≡◌, List, [], ◌∷◌, map, Option, Some, None, Result, Ok, Err, refl, sym, ap, ◌∙◌}
+use Rattle.std.proofs.Common.{◌≡◌, List, [], ◌∷◌, map, Some, None, Result, Ok, Err, refl, ap, ◌∙◌}
 use Rattle.sdb_base.specs.Pairs.{NamedValues, value_of}
 use Rattle.sdb_tables.specs.declared.refusal.Refusal.{Refusal}
 use Rattle.sdb_tables.specs.declared.rules.ParamRow.{ParamRow}
 use Rattle.sdb_tables.specs.Rules.{Field, judged, fields_of}
 use Rattle.sdb_tables.specs.Rules as rules
-use Rattle.sdb_action.specs.Steps.{before_rest, each}
+use Rattle.sdb_action.specs.Steps.{before_rest}
 use Rattle.sdb_action.specs.Tables.{seen, judged_by, fields_by}
 
 same_rest : (field : Result Field Refusal) (rest : Result (List Field) Refusal) → rules.before_rest field rest ≡ before_rest field rest

@@ -1,5 +1,5 @@
 -- What the parameters of a request ask for, or the first refusal of their fields and then of their lists.
-use Rattle.std.specs.Prelude.{ℕ, List, [], ◌∷◌, Option, Some, None, unwrap_or, option_and_then, Result, Ok}
+use Rattle.std.specs.Prelude.{ℕ, List, [], ◌∷◌, Some, None, unwrap_or, option_and_then, Result, Ok}
 use Rattle.sdb_base.specs.Decimal.{decimal_of}
 use Rattle.sdb_base.specs.Pairs.{NamedValues}
 use Rattle.sdb_tables.specs.Rules.{Field}

@@ -1,5 +1,5 @@
 -- What the numbered lists of a request give: attributes, names, items, the expectation.
-use Rattle.std.specs.Prelude.{ℕ, List, [], ◌∷◌, length, map, Bool, false, not, ◌&&◌, ◌||◌, nat_lt, Option, Some, None, is_none, Result, Ok, Err, if◌then◌else◌, codes}
+use Rattle.std.specs.Prelude.{ℕ, List, [], ◌∷◌, length, Bool, false, ◌||◌, nat_lt, Option, Some, None, is_none, Result, Ok, Err, if◌then◌else◌, codes}
 use Rattle.std.specs.List.{list_any}
 use Rattle.std.specs.Str.{bytes_eq}
 use Rattle.sdb_base.specs.Pairs.{NamedValues, value_of}

@@ -131,30 +131,25 @@ fn fields_are_judged_in_order_before_lists(rt: HostRuntime) -> Result<(), Fail> 
 
 #[test]
 fn domains_tokens_and_expressions_are_read(rt: HostRuntime) -> Result<(), Fail> {
-    match request_of(&rt, CREATE, "&DomainName=books")? {
-        Request::CreateDomain(name) => assert_eq!(rt; name.as_str(), "books"),
-        _ => assert!(rt; false),
-    }
-    match request_of(&rt, LIST, "&NextToken=")? {
-        Request::ListDomains(most, token) => assert!(rt; most == 100 && token.is_none()),
-        _ => assert!(rt; false),
-    }
-    match request_of(&rt, LIST, "&MaxNumberOfDomains=7&NextToken=t")? {
-        Request::ListDomains(most, Some(token)) => {
-            assert!(rt; most == 7 && token.as_str() == "t");
-        }
-        _ => assert!(rt; false),
-    }
-    match request_of(
-        &rt,
-        SELECT,
-        "&SelectExpression=x&ConsistentRead=TRUE&NextToken=t",
-    )? {
-        Request::Select(expression, Some(token)) => {
-            assert!(rt; expression.as_str() == "x" && token.as_str() == "t");
-        }
-        _ => assert!(rt; false),
-    }
+    let Request::CreateDomain(name) = request_of(&rt, CREATE, "&DomainName=books")? else {
+        return Err(Fail::new("no creation"));
+    };
+    assert_eq!(rt; name.as_str(), "books");
+    let Request::ListDomains(most, token) = request_of(&rt, LIST, "&NextToken=")? else {
+        return Err(Fail::new("no list"));
+    };
+    assert!(rt; most == 100 && token.is_none());
+    let list = "&MaxNumberOfDomains=7&NextToken=t";
+    let Request::ListDomains(most, token) = request_of(&rt, LIST, list)? else {
+        return Err(Fail::new("no list"));
+    };
+    assert!(rt; most == 7 && token.is_some_and(|token| token.as_str() == "t"));
+    let select = "&SelectExpression=x&ConsistentRead=TRUE&NextToken=t";
+    let Request::Select(expression, token) = request_of(&rt, SELECT, select)? else {
+        return Err(Fail::new("no select"));
+    };
+    assert_eq!(rt; expression.as_str(), "x");
+    assert!(rt; token.is_some_and(|token| token.as_str() == "t"));
     Ok(())
 }
 
@@ -311,19 +306,18 @@ fn expectations_are_judged_after_attributes(rt: HostRuntime) -> Result<(), Fail>
         ],
     )?;
 
-    let Request::Delete(_, _, Some(absent)) = request_of(
-        &rt,
-        DELETE,
-        "&Expected.Name=a&Expected.Exists=FALSE",
-    )?
-    else {
-        return Err(Fail::new("no expectation"));
+    let absent = "&Expected.Name=a&Expected.Exists=FALSE";
+    let Request::Delete(_, _, expected) = request_of(&rt, DELETE, absent)? else {
+        return Err(Fail::new("no deletion"));
     };
-    assert!(rt; absent.name.as_str() == "a" && absent.value.is_none());
+    assert!(rt; expected.is_some_and(|e| e.name.as_str() == "a" && e.value.is_none()));
     let there = "&Attribute.0.Name=a&Attribute.0.Value=2&Expected.7.Name=a&Expected.7.Value=1";
-    let Request::Put(_, _, Some(there)) = request_of(&rt, PUT, there)? else {
+    let Request::Put(_, _, expected) = request_of(&rt, PUT, there)? else {
+        return Err(Fail::new("no put"));
+    };
+    let Some(expected) = expected else {
         return Err(Fail::new("no expectation"));
     };
-    assert!(rt; there.value.is_some_and(|value| value.as_str() == "1"));
+    assert!(rt; expected.value.is_some_and(|value| value.as_str() == "1"));
     Ok(())
 }

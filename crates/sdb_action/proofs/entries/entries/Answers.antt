@@ -1,4 +1,4 @@
-use Rattle.std.proofs.Common.{◌∙◌, sym, ap, List, ◌++◌, ℕ}
+use Rattle.std.proofs.Common.{◌∙◌, ap, List, ◌++◌, ℕ}
 use Rattle.std.specs.Map.{values_of}
 use Rattle.sdb_base.specs.Pairs.{NamedValues}
 use Rattle.sdb_action.proofs.Places.{values_are_entries}

@@ -1,4 +1,4 @@
-use Rattle.std.proofs.Common.{◌∙◌, List, [], Option, Some, None, cond, unwrap_or, sym, ap, eqb, ℕ}
+use Rattle.std.proofs.Common.{◌∙◌, List, [], Option, Some, cond, unwrap_or, sym, ap, eqb, ℕ}
 use Rattle.std.specs.Ordering.{nat_cmp}
 use Rattle.std.specs.BTreeMap.{BTreeMap, get}
 use Rattle.sdb_base.specs.Pairs.{NamedValues}

@@ -1,5 +1,5 @@
 use Rattle.std.proofs.Common.{◌≡◌, ℕ, take}
-use Rattle.std.specs.BTreeMap.{get, IsOrdered}
+use Rattle.std.specs.BTreeMap.{get}
 use Rattle.std.specs.Ordering.{nat_cmp}
 use Rattle.sdb_action.specs.Entries.{entry_at}
 use Rattle.sdb_action.proofs.entries.entries_by_place.Given as goal
