@@ -2,6 +2,7 @@ pub mod AccountLemmas
 pub mod EntryViews
 pub mod ItemSums
 pub mod LogLemmas
+pub mod MetadataLemmas
 pub mod NameLemmas
 pub mod NumberLemmas
 pub mod RangeLemmas

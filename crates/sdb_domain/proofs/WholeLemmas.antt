@@ -33,7 +33,7 @@ use Rattle.sdb_domain.proofs.EntryViews.{sum_inserted, weight_within, back_inser
 
 -- ---- counts of names
 
-named_at : (q : List ℕ) (p : Pair) → is_at (text_cmp q) p.name ≡ is_named q p
+pub named_at : (q : List ℕ) (p : Pair) → is_at (text_cmp q) p.name ≡ is_named q p
 named_at q p = (eq_by_cmp_equiv nat_list_cmp_total).symm q p.name ∙ is_eq-slice_cmp p.name q
 
 count_set : (names : NameCounts) (k q : List ℕ) (n : ℕ) → count_of (insert_entry text_cmp names k n) q ≡ cond (is_at (text_cmp q) k) n (count_of names q)

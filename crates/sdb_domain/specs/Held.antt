@@ -1,8 +1,8 @@
 -- A domain's rows with what is kept beside them, and how steps on them are taken back.
-use Rattle.std.specs.Prelude.{◌≡◌, ℕ, ◌+◌, ◌-◌, List, [], ◌∷◌, Option, Some, None, fold, unwrap_or, All}
+use Rattle.std.specs.Prelude.{◌≡◌, ℕ, zero, suc, ◌+◌, ◌-◌, List, [], ◌∷◌, Option, Some, None, fold, unwrap_or, All}
 use Rattle.std.specs.List.{sum_by, count_by}
 use Rattle.std.specs.List.Sorted.{IsStrictlySortedBy}
-use Rattle.std.specs.Map.{remove_entry}
+use Rattle.std.specs.Map.{remove_entry, keys_of}
 use Rattle.std.specs.BTreeMap.{is_at, insert_entry}
 use Rattle.sdb_base.specs.Texts.{text_cmp}
 use Rattle.sdb_pairs.specs.declared.pair.Pair.{Pair}
@@ -72,3 +72,12 @@ pub record IsWhole (kept : Kept) : Type 0 where
 pub data IsSwept (old new : ItemEntries) (name : List ℕ) : Type 0 where
   same : new ≡ old → IsSwept old new name
   gone : found text_cmp old name ≡ Some [] → new ≡ remove_entry (is_at (text_cmp name)) old → IsSwept old new name
+
+-- a count of no pairs is hidden
+abbrev pub counted : ℕ → Option ℕ
+counted zero = None
+counted (suc n) = Some (suc n)
+
+-- the names that have pairs
+abbrev pub names_counted : NameCounts → List (List ℕ)
+names_counted names = keys_of (seen counted names)

@@ -5,9 +5,11 @@ ghost use Rattle.sdb_base.specs.Texts.{text_cmp};
 ghost use Rattle.sdb_pairs.specs.Entries.{found};
 ghost use Rattle.sdb_domain.specs.Held.{items_kept};
 ghost use Rattle.sdb_domain.specs.LookUps.{least_after, held_text};
+ghost use Rattle.sdb_domain.specs.Metadata.{Describes};
 ghost use Rattle.sdb_domain.specs.Weights.{domain_weight};
 
 use crate::held::Held;
+use crate::metadata::Metadata;
 use sdb_base::{Steps, Text};
 use sdb_pairs::Item;
 use std::marker::Model;
@@ -78,5 +80,12 @@ impl Domain {
         ensures { result ≡ domain_weight self.now }
     {
         self.held.weight()
+    }
+
+    /// Numbers that describe the domain, in one pass over its attribute names.
+    pub fn metadata(&self) -> Metadata
+        ensures { Describes self.now result }
+    {
+        self.held.metadata()
     }
 }

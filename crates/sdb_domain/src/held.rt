@@ -12,7 +12,8 @@ ghost use Rattle.sdb_domain.specs.Sums.{row_sums, exchanged};
 ghost use Rattle.sdb_domain.specs.Held.{IsSwept};
 
 use crate::keyed::Keyed;
-use crate::names::{NameWas, recount, sweep_names, unwind};
+use crate::metadata::Metadata;
+use crate::names::{NameWas, recount, sum_names, sweep_names, unwind};
 use crate::sums::Sums;
 use sdb_base::{OutOfMemory, Text};
 use sdb_pairs::{Item, Ops, merge};
@@ -48,6 +49,7 @@ pub(crate) struct RowWas {
 }
 
 impl Held {
+    ghost use Rattle.sdb_domain.specs.Metadata.{Describes};
     ghost use Rattle.sdb_domain.specs.Held.{IsWhole, nothing_kept, with_row, items_kept};
     ghost use Rattle.sdb_domain.specs.Undo.{row_undone};
 
@@ -122,6 +124,21 @@ impl Held {
         ensures { result ≡ domain_weight (items_kept self.now) }
     {
         self.sums.weight
+    }
+
+    pub(crate) fn metadata(&self) -> Metadata
+        ensures { Describes (items_kept self.now) result }
+    {
+        let counts = self.names.in_order();
+        let (names, name_bytes) = sum_names(counts, self.sums.weight);
+        Metadata {
+            items: self.sums.items,
+            item_bytes: self.sums.item_bytes,
+            names,
+            name_bytes,
+            pairs: self.sums.pairs,
+            value_bytes: self.sums.value_bytes,
+        }
     }
 
     pub(crate) fn scan(&self, after: Option<&Text>) -> Option<(&Text, &Item)>

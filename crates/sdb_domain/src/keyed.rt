@@ -1,4 +1,4 @@
-ghost use Rattle.std.specs.Prelude.{◌≡◌, [], IfOk, OnOk, OnErr, IfSome, option_map};
+ghost use Rattle.std.specs.Prelude.{◌≡◌, ◌^◌, ◌<◌, length, [], IfOk, OnOk, OnErr, IfSome, option_map};
 ghost use Rattle.std.specs.Option.{option_copied};
 ghost use Rattle.std.specs.Map.{remove_entry, set_value};
 ghost use Rattle.std.specs.BTreeMap.{is_at, insert_entry};
@@ -52,6 +52,15 @@ impl<V> Keyed<V> {
         self.map.get(key)
     }
 
+    // The same; a caller learns that the keys rise.
+    pub(crate) fn in_order(&self) -> &Keyed<V>
+        ensures same { result.now ≡ self.now }
+        ensures rising { IsRising text_cmp self.now }
+    {
+        let _ = &self.map;
+        self
+    }
+
     // The stored key too.
     pub(crate) fn get_key_value(&self, key: &Text) -> Option<(&Text, &V)>
         ensures key { IfSome result (λ p. p.0.now ≡ key.now) }
@@ -63,6 +72,7 @@ impl<V> Keyed<V> {
     // The entries above the key, in order, or all.
     pub(crate) fn range_after(&self, after: Option<&Text>) -> Range<'_, Text, V>
         ensures entries { result ≡ entries_after self.now (option_copied after.entry) }
+        ensures fits { length result < 2 ^ 63 }
         ensures rising { IsRising text_cmp self.now }
     {
         self.map.range((start_after(after), Bound::Unbounded))

@@ -14,3 +14,6 @@ mod sums;
 pub use accounts::Accounts;
 pub use domain::Domain;
 pub use metadata::Metadata;
+
+#[cfg(test)]
+mod tests;

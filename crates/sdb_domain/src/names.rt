@@ -1,5 +1,6 @@
-ghost use Rattle.std.specs.Prelude.{◌≡◌, ◌+◌, ◌-◌, fold, IfOk, OnOk, OnErr, List, ℕ};
+ghost use Rattle.std.specs.Prelude.{◌≡◌, ◌+◌, ◌-◌, ◌≤◌, fold, length, IfOk, OnOk, OnErr, List, ℕ};
 ghost use Rattle.std.specs.BTreeMap.{insert_entry};
+ghost use Rattle.std.specs.List.{sum_by};
 ghost use Rattle.std.specs.List.Sorted.{IsStrictlySortedBy};
 ghost use Rattle.sdb_base.specs.Texts.{text_cmp};
 ghost use Rattle.sdb_pairs.specs.Entries.{IsRising};
@@ -16,7 +17,7 @@ pub(crate) struct NameWas {
     count: Option<u64>,
 }
 
-ghost use Rattle.sdb_domain.specs.Held.{count_of, raised, lowered, recounted, name_undone};
+ghost use Rattle.sdb_domain.specs.Held.{count_of, raised, lowered, recounted, name_undone, names_counted};
 ghost use Rattle.sdb_domain.specs.Keyed.{unwound};
 
 // Counts the new pairs' names in the place of the old ones'. Gives what takes it back.
@@ -138,4 +139,21 @@ fn sweep_name(names: &mut Keyed<u64>, name: &Text)
     if count_of(names, name) == 0 {
         names.remove(name);
     }
+}
+
+// How many names have pairs, and their bytes, which are at most `most`.
+pub(crate) fn sum_names(names: &Keyed<u64>, most: u64) -> (u64, u64)
+    requires { sum_by length (names_counted names.now) ≤ most }
+    ensures count { result.0 ≡ length (names_counted names.now) }
+    ensures bytes { result.1 ≡ sum_by length (names_counted names.now) }
+{
+    let mut count: u64 = 0;
+    let mut bytes: u64 = 0;
+    for (name, pairs) in names.range_after(None) {
+        if *pairs != 0 {
+            count = count.saturating_add(1);
+            bytes = bytes.saturating_add(name.as_str().len() as u64);
+        }
+    }
+    (count, bytes)
 }
