@@ -1,111 +1,192 @@
-ghost use Rattle.std.specs.Prelude.{◌≡◌, ◌^◌, ◌<◌, length, slice_get, filter, option_map, OnOk, OnErr};
+ghost use Rattle.std.specs.Prelude.{◌≡◌, ◌-◌, ◌≤◌, ◌<◌, ◌+◌, OnOk, OnErr, option_map, length, List, [], ◌∷◌, ℕ, replicate};
 ghost use Rattle.std.specs.Option.{option_copied};
-ghost use Rattle.std.specs.List.Sorted.{IsStrictlySortedBy};
-ghost use Rattle.sdb_domain.specs.Rows.{no_rows, has_domain as has_row, with_domain, with_pair, row_cmp, is_of, pairs_of};
+ghost use Rattle.sdb_pairs.specs.Accounts.{AreAccounts, items_of};
+ghost use Rattle.sdb_pairs.specs.Changes.{after, state};
+ghost use Rattle.sdb_domain.specs.LookUps.{name_after};
+ghost use Rattle.sdb_domain.specs.Weights.{domains_of, account_weight};
 
-use crate::row::Row;
+use crate::account::{Account, Undo, account_id};
+use crate::domain::Domain;
 use sdb_base::{AccountId, OutOfMemory, Text};
+use sdb_pairs::{Change, Changes};
 use std::alloc::Global;
-use std::collections::BTreeSet;
+use std::array;
 use std::marker::Model;
 
-/// The domains of all accounts, with their items. The look-ups are linear in the number of rows.
+// How many accounts there are.
+const ACCOUNTS: usize = 16;
+
+/// The domains of all accounts, with their items. They come to be by changes alone. Looking up takes no
+/// memory.
 #[derive(Debug, Drop)]
 pub struct Accounts {
     alloc: Global,
-    domains: Vec<(AccountId, Text)>,
-    pairs: BTreeSet<Row>,
+    accounts: [Account; ACCOUNTS],
 }
 
 impl Model for Accounts {
-    ghost use Rattle.sdb_domain.specs.Rows.{Rows};
+    ghost use Rattle.sdb_pairs.specs.Accounts.{DomainEntries};
+    ghost use Rattle.sdb_domain.specs.Slots.{accounts_shown, AreKept};
 
-    ghost Value = { Rows };
+    ghost Value = { DomainEntries };
 
-    ghost view = { λ it. record { domains = it.domains.items; pairs = it.pairs.keys } };
+    ghost view = { λ it. accounts_shown it.accounts };
+
+    ghost invariant = { λ it. AreKept it.accounts };
 }
+
+ghost use Rattle.sdb_domain.specs.declared.account.Undo.{Undo as Done};
+ghost use Rattle.sdb_domain.specs.Slots.{accounts_shown, account_at, no_account};
+ghost use Rattle.sdb_domain.specs.Steps.{Logs, AreSettledBut, CanUndoAll, CanUndoAccount, all_undone};
+ghost use Rattle.sdb_domain.specs.Keyed.{unwound};
 
 impl Accounts {
     /// No account has a domain. It takes no memory, and later calls use this allocator.
     pub fn new(alloc: Global) -> Accounts
-        ensures { result ≡ no_rows }
+        ensures { result ≡ [] }
     {
         Accounts {
             alloc,
-            domains: Vec::new(alloc),
-            pairs: BTreeSet::new(alloc),
+            accounts: empty_accounts(alloc),
         }
     }
 
-    /// Makes the domain where the account has none of that name yet.
-    pub fn make_domain(&mut self, account: AccountId, name: &Text) -> Result<(), OutOfMemory>
-        ensures ok { OnOk result (self.new ≡ with_domain self.old account name.now) }
+    /// The account's domain of that name.
+    pub fn domain(&self, account: AccountId, name: &Text) -> Option<&Domain>
+        ensures found { option_map (λ d. d.now) result ≡ items_of self.now account name.now }
+        ensures accounts { AreAccounts self.now }
+    {
+        self.accounts[index_of(account)].domain(name)
+    }
+
+    /// The name of the account's domain of the least name above the given one, or of the least name of all.
+    pub fn domain_after(&self, account: AccountId, name: Option<&Text>) -> Option<&Text>
+        ensures { option_map (λ t. t.now) result ≡ name_after self.now account (option_copied name.entry) }
+    {
+        self.accounts[index_of(account)].domain_after(name)
+    }
+
+    /// How many domains the account has.
+    pub fn domain_count(&self, account: AccountId) -> u64
+        ensures { result ≡ length (domains_of self.now account) }
+    {
+        self.accounts[index_of(account)].count()
+    }
+
+    /// The weight of the account's domains, each of which weighs what its items weigh.
+    pub fn weight(&self, account: AccountId) -> u64
+        ensures { result ≡ account_weight self.now account }
+    {
+        self.accounts[index_of(account)].weight()
+    }
+
+    /// Applies all changes in order, or none. Making a domain that is there and dropping one that isn't
+    /// change nothing; dropping one takes its items with it, and an edit makes its domain first. An item
+    /// without pairs isn't there. No limit is checked.
+    pub fn apply(&mut self, changes: &Changes) -> Result<(), OutOfMemory>
+        ensures ok { OnOk result (self.new ≡ state self.old changes.now) }
         ensures err { OnErr result (self.new ≡ self.old) }
     {
-        if self.has_domain(account, name) {
-            return Ok(());
+        let mut log = Vec::new(self.alloc);
+        match step_all(&mut self.accounts, self.alloc, changes.as_slice(), &mut log) {
+            Ok(()) => {
+                settle_all(&mut self.accounts, log.as_slice());
+                Ok(())
+            }
+            Err(error) => {
+                undo_all(&mut self.accounts, log);
+                Err(error)
+            }
         }
-        let name = name.copy(self.alloc)?;
-        self.domains.push((account, name))?;
-        Ok(())
     }
+}
 
-    /// Whether the account has a domain of that name.
-    pub fn has_domain(&self, account: AccountId, name: &Text) -> bool
-        ensures { result ≡ has_row self.now account name.now }
-    {
-        self.domains
-            .iter()
-            .any(|row| row.0 == account && row.1 == *name)
-    }
+fn empty_accounts(alloc: Global) -> [Account; ACCOUNTS]
+    ensures { result ≡ replicate 16 no_account }
+{
+    array::from_fn(|_| Account::new(alloc))
+}
 
-    /// Adds a pair to an item; adding one that is there changes nothing.
-    pub fn add_pair(
-        &mut self,
-        account: AccountId,
-        domain: &Text,
-        item: &Text,
-        name: &Text,
-        value: &Text,
-    ) -> Result<(), OutOfMemory>
-        ensures ok { OnOk result (self.new ≡ with_pair self.old (record { account = account; domain = domain.now; item = item.now; name = name.now; value = value.now })) }
-        ensures err { OnErr result (self.new ≡ self.old) }
-    {
-        let row = Row {
-            account,
-            domain: domain.copy(self.alloc)?,
-            item: item.copy(self.alloc)?,
-            name: name.copy(self.alloc)?,
-            value: value.copy(self.alloc)?,
-        };
-        self.pairs.insert(row)?;
-        Ok(())
-    }
+// The place of an account among all.
+fn index_of(account: AccountId) -> usize
+    ensures place { result + 1 ≡ account }
+    ensures within { result < 16 }
+{
+    usize::from(account.0 - 1)
+}
 
-    /// Name and value of the item's pair at `place`, counted from 0 in rising order by name and value.
-    pub fn row(
-        &self,
-        account: AccountId,
-        domain: &Text,
-        item: &Text,
-        place: usize,
-    ) -> Option<(&Text, &Text)>
-        ensures pair { option_map (λ pair. (pair.0.now, pair.1.now)) result ≡ slice_get (pairs_of self.now account domain.now item.now) place }
-        ensures rising { IsStrictlySortedBy row_cmp self.now.pairs }
-        ensures few { length self.now.pairs < 2 ^ 63 }
-    {
-        let row = self.nth_row(account, domain, item, place)?;
-        Some((&row.name, &row.value))
+// Applies the changes in order, each with an entry of the log that takes it back.
+fn step_all(
+    accounts: &mut [Account],
+    alloc: Global,
+    changes: &[Change],
+    log: &mut Vec<Undo>,
+) -> Result<(), OutOfMemory>
+    requires { length accounts.old ≡ 16 }
+    ensures ok { OnOk result (accounts_shown accounts.new ≡ state (accounts_shown accounts.old) changes.now) }
+    ensures logs { Logs accounts.old log.old.items accounts.new log.new.items }
+{
+    for change in changes {
+        step(accounts, alloc, change, log)?;
     }
+    Ok(())
+}
 
-    fn nth_row(&self, account: AccountId, domain: &Text, item: &Text, place: usize) -> Option<&Row>
-        ensures row { option_copied result ≡ slice_get (filter (is_of account domain.now item.now) self.now.pairs) place }
-        ensures rising { IsStrictlySortedBy row_cmp self.now.pairs }
-        ensures few { length self.now.pairs < 2 ^ 63 }
-    {
-        self.pairs
-            .iter()
-            .filter(|row| row.account == account && row.domain == *domain && row.item == *item)
-            .nth(place)
+fn step(
+    accounts: &mut [Account],
+    alloc: Global,
+    change: &Change,
+    log: &mut Vec<Undo>,
+) -> Result<(), OutOfMemory>
+    requires { length accounts.old ≡ 16 }
+    ensures ok { OnOk result (accounts_shown accounts.new ≡ after (accounts_shown accounts.old) change.now) }
+    ensures logs { Logs accounts.old log.old.items accounts.new log.new.items }
+{
+    log.reserve(1)?;
+    let place = index_of(account_id(change));
+    let undo = accounts[place].step(alloc, change)?;
+    log.push(undo)?;
+    Ok(())
+}
+
+// Takes back every step of the log, the newest first.
+fn undo_all(accounts: &mut [Account], mut log: Vec<Undo>)
+    requires all { length accounts.old ≡ 16 }
+    requires can { CanUndoAll accounts.old log.items }
+    ensures { accounts.new ≡ unwound all_undone accounts.old log.items }
+{
+    while let Some(undo) = log.pop() {
+        undo_one(accounts, undo);
     }
+}
+
+fn undo_one(accounts: &mut [Account], undo: Undo)
+    requires all { length accounts.old ≡ 16 }
+    requires can { CanUndoAccount (account_at accounts.old (undo.account - 1)) undo }
+    ensures undone { accounts.new ≡ all_undone accounts.old undo }
+    ensures size { length accounts.new ≡ 16 }
+{
+    let place = index_of(undo.account);
+    accounts[place].undo(undo);
+}
+
+// Closes to edits every domain that a step of the log was about.
+fn settle_all(accounts: &mut [Account], log: &[Undo])
+    requires { length accounts.old ≡ 16 }
+    ensures shown { accounts_shown accounts.new ≡ accounts_shown accounts.old }
+    ensures settled { AreSettledBut accounts.old log.now → AreSettledBut accounts.new [] }
+{
+    for undo in log {
+        settle_one(accounts, undo);
+    }
+}
+
+fn settle_one(accounts: &mut [Account], undo: &Undo)
+    requires { length accounts.old ≡ 16 }
+    ensures shown { accounts_shown accounts.new ≡ accounts_shown accounts.old }
+    ensures settled { (more : List Done) → AreSettledBut accounts.old (undo.now ∷ more) → AreSettledBut accounts.new more }
+    ensures size { length accounts.new ≡ 16 }
+{
+    let place = index_of(undo.account);
+    accounts[place].settle(undo);
 }

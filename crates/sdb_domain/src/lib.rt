@@ -1,10 +1,16 @@
-//! The accounts with their domains and items, for now a plain list of rows.
+//! The accounts with their domains and items, as ordered maps.
 #![tactic(auto)]
 
+mod account;
 mod accounts;
-mod row;
+mod domain;
+mod held;
+mod keyed;
+mod metadata;
+mod names;
+mod slot;
+mod sums;
 
 pub use accounts::Accounts;
-
-#[cfg(test)]
-mod tests;
+pub use domain::Domain;
+pub use metadata::Metadata;

@@ -1,0 +1,10 @@
+pub mod AccountLemmas
+pub mod EntryViews
+pub mod ItemSums
+pub mod LogLemmas
+pub mod NameLemmas
+pub mod NumberLemmas
+pub mod RangeLemmas
+pub mod SeenLemmas
+pub mod SlotLemmas
+pub mod WholeLemmas

@@ -1,0 +1,19 @@
+use Rattle.std.proofs.Common.{◌≡◌, ℕ, ◌+◌, ◌<◌, length, get_or, ◌∙◌, sym, ap, arith}
+use Rattle.std.specs.List.{sum_by}
+use Rattle.sdb_domain.specs.Slots.{AccountKept, account_at, domains_shown, weight_of_domain}
+use Rattle.sdb_domain.specs.Weights.{domains_of, account_weight}
+use Rattle.sdb_domain.proofs.LogLemmas.{at_get}
+use Rattle.sdb_domain.proofs.NumberLemmas.{weight_of_account}
+use Rattle.sdb_domain.proofs.accounts.Accounts.weight.Goals as goal
+
+pub returns : goal.returns
+returns c =
+    let accounts = c.self.inside.accounts in
+    let place = c.index_of.result in
+    let lt : place < length accounts = omega arith in
+    let here : get_or accounts place c.index-self-index_of.result ≡ account_at accounts place = sym (at_get accounts place c.index-self-index_of.result lt) in
+    let number : c.args.account ≡ 1 + place = omega arith in
+    c.weight.ensures
+    ∙ ap (λ (a : AccountKept). sum_by weight_of_domain (domains_shown a.slots)) here
+    ∙ sym (weight_of_account accounts place c.args.account number)
+    ∙ ap (λ s. account_weight s c.args.account) c.self.view_is

@@ -1,0 +1,125 @@
+-- Steps on the accounts, and how they are taken back.
+use Rattle.std.specs.Prelude.{◌≡◌, ℕ, ◌-◌, ◌<◌, Bool, true, false, List, [], ◌∷◌, length, Option, Some, None, unwrap_or, set, ◌==◌, ◌&&◌, IfSome}
+use Rattle.std.specs.Map.{set_value}
+use Rattle.std.specs.BTreeMap.{is_at}
+use Rattle.std.specs.List.{list_any}
+use Rattle.sdb_base.specs.Texts.{text_cmp}
+use Rattle.sdb_pairs.specs.declared.change.Change.{Change}
+use Rattle.sdb_pairs.specs.declared.change.Change.TheVariants.{MakeDomain, DropDomain, Edit}
+use Rattle.sdb_pairs.specs.Accounts.{ItemEntries}
+use Rattle.sdb_pairs.specs.Changes.{edited}
+use Rattle.sdb_pairs.specs.Entries.{found, placed, IsRising}
+use Rattle.sdb_domain.specs.declared.slot.Slot.{Slot}
+use Rattle.sdb_domain.specs.declared.slot.Slot.TheVariants.{Settled, Open, Dropped}
+use Rattle.sdb_domain.specs.declared.slot.Step.{Step}
+use Rattle.sdb_domain.specs.declared.slot.Step.TheVariants.{Same, Slot as SlotWas, Row}
+use Rattle.sdb_domain.specs.declared.held.RowWas.{RowWas}
+use Rattle.sdb_domain.specs.declared.account.Undo.{Undo}
+use Rattle.sdb_domain.specs.Held.{Kept, items_kept, IsWhole}
+use Rattle.sdb_domain.specs.Keyed.{back, unwound}
+use Rattle.sdb_domain.specs.Slots.{Slots, domains_shown, AccountKept, IsWholeAccount, IsSettled, account_at}
+use Rattle.sdb_domain.specs.Undo.{row_undone}
+
+-- ---- which place a change is about
+
+abbrev pub account_of : Change → ℕ
+account_of (MakeDomain account domain) = account
+account_of (DropDomain account domain) = account
+account_of (Edit account domain item ops) = account
+
+abbrev pub domain_of : Change → List ℕ
+domain_of (MakeDomain account domain) = domain
+domain_of (DropDomain account domain) = domain
+domain_of (Edit account domain item ops) = domain
+
+-- what a change leaves of its domain, where there was that or nothing
+abbrev pub items_after : Option ItemEntries → Change → Option ItemEntries
+items_after old (MakeDomain account domain) = Some (unwrap_or old [])
+items_after old (DropDomain account domain) = None
+items_after old (Edit account domain item ops) = Some (edited (unwrap_or old []) item ops)
+
+-- ---- one slot
+
+abbrev pub closed : Bool → Kept → Slot
+closed true kept = Settled (items_kept kept)
+closed false kept = Open kept
+
+abbrev pub row_step_undone : Slots → List ℕ → Bool → RowWas → Option Slot → Slots
+row_step_undone slots name settled was None = slots
+row_step_undone slots name settled was (Some (Settled items)) = slots
+row_step_undone slots name settled was (Some (Open kept)) = set_value (is_at (text_cmp name)) slots (closed settled (row_undone kept was))
+row_step_undone slots name settled was (Some Dropped) = slots
+
+abbrev pub step_undone : Slots → List ℕ → Step → Slots
+step_undone slots name Same = slots
+step_undone slots name (SlotWas was) = back slots name was
+step_undone slots name (Row settled was) = row_step_undone slots name settled was (found text_cmp slots name)
+
+-- the edit of a row can be taken back
+abbrev pub CanUndoRow : RowWas → Option Slot → Type 0
+CanUndoRow was None = ⊥
+CanUndoRow was (Some (Settled items)) = ⊥
+CanUndoRow was (Some (Open kept)) = IsWhole (row_undone kept was)
+CanUndoRow was (Some Dropped) = ⊥
+
+abbrev pub CanUndoStep : Slots → List ℕ → Step → Type 0
+CanUndoStep slots name Same = Unit {0}
+CanUndoStep slots name (SlotWas was) = Unit {0}
+CanUndoStep slots name (Row settled was) = CanUndoRow was (found text_cmp slots name)
+
+-- what a step on the slots does: under the name that stands for the domain, and nowhere else
+pub record Steps (old new : Slots) (name : List ℕ) (items : Option ItemEntries) (step : Step) : Type 0 where
+  pub made : domains_shown new ≡ placed text_cmp (domains_shown old) name items
+  pub taken_back : step_undone new name step ≡ old
+  pub can : CanUndoStep new name step
+  pub others : (q : List ℕ) → is_at (text_cmp q) name ≡ false → found text_cmp new q ≡ found text_cmp old q
+
+-- what closing a slot does: every domain stays, and nothing else changes
+pub record Settles (old new : Slots) (name : List ℕ) : Type 0 where
+  pub rises : IsRising text_cmp new
+  pub shown : domains_shown new ≡ domains_shown old
+  pub settled : IfSome (found text_cmp new name) IsSettled
+  pub others : (q : List ℕ) → is_at (text_cmp q) name ≡ false → found text_cmp new q ≡ found text_cmp old q
+
+-- ---- one account
+
+abbrev pub account_undone : AccountKept → Undo → AccountKept
+account_undone account undo = record { slots = step_undone account.slots undo.name undo.step; count = undo.count; weight = undo.weight }
+
+pub record CanUndoAccount (account : AccountKept) (undo : Undo) : Type 0 where
+  pub whole : IsWholeAccount (account_undone account undo)
+  pub step : CanUndoStep account.slots undo.name undo.step
+
+-- what a change does to its account
+pub record AccountSteps (old new : AccountKept) (change : Change) (undo : Undo) : Type 0 where
+  pub made : domains_shown new.slots ≡ placed text_cmp (domains_shown old.slots) (domain_of change) (items_after (found text_cmp (domains_shown old.slots) (domain_of change)) change)
+  pub taken_back : account_undone new undo ≡ old
+  pub account : undo.account ≡ account_of change
+  pub name : undo.name ≡ domain_of change
+  pub can : CanUndoAccount new undo
+  pub others : (q : List ℕ) → is_at (text_cmp q) (domain_of change) ≡ false → found text_cmp new.slots q ≡ found text_cmp old.slots q
+
+-- ---- all accounts
+
+abbrev pub all_undone : List AccountKept → Undo → List AccountKept
+all_undone accounts undo = set accounts (undo.account - 1) (account_undone (account_at accounts (undo.account - 1)) undo)
+
+-- each step of a log can be taken back in turn, the newest first; the newest stands last
+abbrev pub CanUndoAll : List AccountKept → List Undo → Type 0
+CanUndoAll accounts [] = Unit {0}
+CanUndoAll accounts (undo ∷ undos) = CanUndoAll accounts undos × CanUndoAccount (account_at (unwound all_undone accounts undos) (undo.account - 1)) undo
+
+-- whether a step was about that domain of the account at that place
+abbrev pub touches : ℕ → List ℕ → Undo → Bool
+touches i name undo = (undo.account - 1 == i) && is_at (text_cmp name) undo.name
+
+-- no slot is open but those that steps of the log were about
+abbrev pub AreSettledBut : List AccountKept → List Undo → Type 0
+AreSettledBut accounts log = (i : ℕ) (name : List ℕ) → list_any (touches i name) log ≡ false → IfSome (found text_cmp (account_at accounts i).slots name) IsSettled
+
+-- what steps on the accounts keep, with the log that takes them back
+pub record Logs (old : List AccountKept) (old_log : List Undo) (new : List AccountKept) (new_log : List Undo) : Type 0 where
+  pub size : length new ≡ length old
+  pub taken_back : unwound all_undone new new_log ≡ unwound all_undone old old_log
+  pub can : CanUndoAll old old_log → CanUndoAll new new_log
+  pub settled : AreSettledBut old old_log → AreSettledBut new new_log
