@@ -1,11 +1,10 @@
 -- What a line asks, step by step.
-use Rattle.std.proofs.Common.{◌≡◌, ℕ, ◌≤◌, List, length, true, false, Ok, Err, Result, refl, sym, ◌∙◌, ap, nat_lt, if◌then◌else◌}
+use Rattle.std.proofs.Common.{◌≡◌, ℕ, ◌≤◌, List, length, true, false, Ok, Err, refl, ◌∙◌, ap, if◌then◌else◌}
 use Rattle.std.proofs.lemmas.Bool.{le-ltb}
 use Rattle.sdb_base.specs.Pairs.{NamedValues}
 use Rattle.sdb_tables.specs.declared.refusal.Refusal.{Refusal}
 use Rattle.sdb_tables.specs.declared.refusal.Refusal.TheVariants.{InvalidAction}
 use Rattle.sdb_action.specs.declared.action.Action.{Action}
-use Rattle.sdb_action.specs.declared.request.Request.{Request}
 use Rattle.sdb_action.specs.Actions.{action_of}
 use Rattle.sdb_action.specs.Asked.{asked as request_of}
 use Rattle.sdb_cli.specs.Line.{asked, asked_by, is_executed, params_of, requested}

@@ -1,13 +1,13 @@
 -- Lines that are too long.
-use Rattle.std.proofs.Common.{◌≡◌, ℕ, zero, suc, ◌+◌, ◌-◌, ◌<◌, ◌≤◌, List, [], ◌∷◌, ◌++◌, length, take, drop, replicate, Bool, not, ◌==◌, true, false, if◌then◌else◌, Err, MatchOption, Option, Some, None, inl, inr, refl, sym, ◌∙◌, ap, subst, arith, append_assoc, append-nil, length-append, take-append-drop}
-use Rattle.std.specs.List.{list_all, position}
+use Rattle.std.proofs.Common.{◌≡◌, ℕ, zero, suc, ◌+◌, ◌-◌, ◌<◌, ◌≤◌, List, [], ◌∷◌, ◌++◌, length, take, drop, replicate, Bool, ◌==◌, true, false, if◌then◌else◌, Err, MatchOption, Some, None, inl, inr, refl, sym, ◌∙◌, ap, subst, arith, append_assoc, length-append, take-append-drop}
+use Rattle.std.specs.List.{position}
 use Rattle.std.proofs.lemmas.Bool.{lt-ltb}
 use Rattle.std.proofs.lemmas.List.{length-replicate}
 use Rattle.sdb_tables.specs.declared.refusal.Refusal.TheVariants.{RequestTooLong}
 use Rattle.sdb_cli.specs.Body.{refused}
 use Rattle.sdb_cli.specs.Line.{asked}
 use Rattle.sdb_cli.specs.Lines.{Alike, IsOneLine, CutsLines, long_line, most_line, zeros}
-use Rattle.sdb_cli.specs.Plain.{Standing, told, answer, after, answers}
+use Rattle.sdb_cli.specs.Plain.{answer, after, answers}
 use Rattle.sdb_pairs.specs.Accounts.{DomainEntries}
 use Rattle.sdb_cli.proofs.LinesLemmas.{IsOneLine-append, line_end_from_position}
 

@@ -1,5 +1,5 @@
 -- A write that is decided and applied.
-use Rattle.std.proofs.Common.{◌≡◌, ℕ, List, Ok, Err, Result, refl, sym, ◌∙◌, ap}
+use Rattle.std.proofs.Common.{◌≡◌, ℕ, List, Ok, Err, refl, sym, ◌∙◌, ap}
 use Rattle.sdb_pairs.specs.Accounts.{DomainEntries, AreAccounts}
 use Rattle.sdb_pairs.specs.Changes.{state}
 use Rattle.sdb_pairs.specs.declared.change.Change.{Change}

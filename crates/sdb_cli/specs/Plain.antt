@@ -5,7 +5,7 @@ use Rattle.sdb_pairs.specs.Accounts.{DomainEntries, ItemEntries, items_of, pairs
 use Rattle.sdb_tables.specs.declared.refusal.Refusal.{Refusal}
 use Rattle.sdb_tables.specs.declared.refusal.Refusal.TheVariants.{InvalidAction, NoSuchDomain}
 use Rattle.sdb_action.specs.declared.request.Request.{Request}
-use Rattle.sdb_action.specs.declared.request.Request.TheVariants.{CreateDomain, DeleteDomain, ListDomains, DomainMetadata, Put, BatchPut, Get, Delete, BatchDelete, Select}
+use Rattle.sdb_action.specs.declared.request.Request.TheVariants.{CreateDomain, DeleteDomain, Put, Get, Delete}
 use Rattle.sdb_write.specs.Writes.{write}
 use Rattle.sdb_cli.specs.Actions.{create_domain_action, delete_domain_action, put_action, get_action, delete_action}
 use Rattle.sdb_cli.specs.Body.{success, refused, get_result}

@@ -216,7 +216,7 @@ module _ {K X : Type 0} {cmp : K → K → Ordering} (o : IsTotalOrder cmp) (exa
       (λ n.
       let ih = sum_removed es k in
       let a : sum_by f (remove_entry (is_at (cmp k)) (e ∷ es)) ≡ f e + sum_by f (remove_entry (is_at (cmp k)) es) =
-          ap (λ b. sum_by f (cond b es (e ∷ remove_entry (is_at (cmp k)) es))) n ∙ sum_by-cons f e (remove_entry (is_at (cmp k)) es) in
+      ap (λ b. sum_by f (cond b es (e ∷ remove_entry (is_at (cmp k)) es))) n ∙ sum_by-cons f e (remove_entry (is_at (cmp k)) es) in
       let b : adds k (found cmp (e ∷ es) k) ≡ adds k (found cmp es k) = ap (adds k) (found_later (is_at (cmp k)) e es n) in
       omega arith)
 

@@ -89,6 +89,7 @@ not_touched i name u h e = kept (u.account - 1 == i) (is_at (text_cmp name) u.na
   where
     same : (u.account - 1 == i) ≡ true
     same = eq-eqb (u.account - 1) i e
+
     kept : (a b : Bool) → a ≡ true → (a && b) ≡ false → b ≡ false
     kept true b t k = k
     kept false b t k = absurd (true≢false (sym t))

@@ -187,7 +187,7 @@ name_bytes_fit kept whole s =
     omega arith
 
 pub describes : (kept : Kept) (names name_bytes : ℕ) → IsWhole kept → IsRising text_cmp kept.names → names ≡ length (names_counted kept.names) → name_bytes ≡ sum_by length (names_counted kept.names)
-    → Describes (items_kept kept) (record {items = kept.sums.items; item_bytes = kept.sums.item_bytes; names = names; name_bytes = name_bytes; pairs = kept.sums.pairs; value_bytes = kept.sums.value_bytes})
+    → Describes (items_kept kept) (record { items = kept.sums.items; item_bytes = kept.sums.item_bytes; names = names; name_bytes = name_bytes; pairs = kept.sums.pairs; value_bytes = kept.sums.value_bytes })
 describes kept names name_bytes whole s count bytes = record {
   items_are = count_is kept whole;
   item_bytes_are = item_bytes_is kept whole;
@@ -236,6 +236,6 @@ module _ (all front rest : NameCounts) (k : List ℕ) (n : ℕ) (is : all ≡ fr
       let one : sum_by {X = List ℕ} length (k ∷ []) ≡ length k = let l = sum_by-cons {X = List ℕ} length k [] in omega arith in
       let more : sum_by length (names_counted (front ++ (k, n) ∷ [])) ≡ sum_by length (names_counted front) + sum_by {X = List ℕ} length (k ∷ []) = ap (sum_by length) (names_more ne) ∙ sum_by-append length (names_counted front) (k ∷ []) in
       let whole : sum_by length (names_counted all) ≡ sum_by length (names_counted front) + sum_by length (names_counted ((k, n) ∷ rest)) =
-          ap (λ l. sum_by length (names_counted l)) is ∙ ap (sum_by length) (names_joined front ((k, n) ∷ rest)) ∙ sum_by-append length (names_counted front) (names_counted ((k, n) ∷ rest)) in
+      ap (λ l. sum_by length (names_counted l)) is ∙ ap (sum_by length) (names_joined front ((k, n) ∷ rest)) ∙ sum_by-append length (names_counted front) (names_counted ((k, n) ∷ rest)) in
       let later : sum_by length (names_counted ((k, n) ∷ rest)) ≡ length k + sum_by length (names_counted rest) = ap (sum_by length) (first_counted k n rest ne) ∙ sum_by-cons length k (names_counted rest) in
       omega arith

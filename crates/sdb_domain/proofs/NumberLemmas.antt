@@ -85,13 +85,13 @@ placed_tagged n (d ∷ ds) q None =
     let ih = placed_tagged n ds q None in
     ap (λ r. cond (is_eq r) (tagged n ds) (((n, d.0), d.1) ∷ remove_entry (is_at (domain_cmp (n, q))) (tagged n ds))) (same_account n q d.0)
     ∙ elim (is_at (text_cmp q) d.0) as (λ b. cond b (tagged n ds) (((n, d.0), d.1) ∷ remove_entry (is_at (domain_cmp (n, q))) (tagged n ds)) ≡ tagged n (cond b ds (d ∷ remove_entry (is_at (text_cmp q)) ds)))
-      [ true ↦ refl | false ↦ ap (λ l. ((n, d.0), d.1) ∷ l) ih ]
+    [ true ↦ refl | false ↦ ap (λ l. ((n, d.0), d.1) ∷ l) ih ]
 placed_tagged n (d ∷ ds) q (Some v) =
     let ih = placed_tagged n ds q (Some v) in
     let e : (ℕ × List ℕ) × ItemEntries = ((n, d.0), d.1) in
     ap (λ r. match_ordering r (((n, q), v) ∷ e ∷ tagged n ds) ((e.0, v) ∷ tagged n ds) (e ∷ insert_entry domain_cmp (tagged n ds) (n, q) v)) (same_account n q d.0)
     ∙ elim (text_cmp q d.0) as (λ r. match_ordering r (((n, q), v) ∷ e ∷ tagged n ds) ((e.0, v) ∷ tagged n ds) (e ∷ insert_entry domain_cmp (tagged n ds) (n, q) v) ≡ tagged n (match_ordering r ((q, v) ∷ d ∷ ds) ((d.0, v) ∷ ds) (d ∷ insert_entry text_cmp ds q v)))
-      [ Less ↦ refl | Equal ↦ refl | Greater ↦ ap (λ l. e ∷ l) ih ]
+    [ Less ↦ refl | Equal ↦ refl | Greater ↦ ap (λ l. e ∷ l) ih ]
 
 past_tagged : (m n : ℕ) (q : List ℕ) (ds : Domains) → n < m → AllByRecursion (λ e. domain_cmp (m, q) e.0 ≡ Greater) (tagged n ds)
 past_tagged m n q [] lt = tt

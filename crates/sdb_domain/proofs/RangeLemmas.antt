@@ -56,6 +56,7 @@ module _ {X Y : Type 0} (see : X → Option Y) where
       kept : (o : Option Y) → test e.0 ≡ true → filter (λ x. test x.0) (with_shown e.0 o (seen see es)) ≡ with_shown e.0 o (filter (λ x. test x.0) (seen see es))
       kept None t = refl
       kept (Some y) t = ap (λ b. cond b ((e.0, y) ∷ filter (λ x. test x.0) (seen see es)) (filter (λ x. test x.0) (seen see es))) t
+
       lost : (o : Option Y) → test e.0 ≡ false → filter (λ x. test x.0) (with_shown e.0 o (seen see es)) ≡ filter (λ x. test x.0) (seen see es)
       lost None f = refl
       lost (Some y) f = ap (λ b. cond b ((e.0, y) ∷ filter (λ x. test x.0) (seen see es)) (filter (λ x. test x.0) (seen see es))) f

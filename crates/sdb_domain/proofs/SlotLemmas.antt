@@ -170,7 +170,7 @@ pub settles : (old : Slots) (name : List ℕ) (slot : Slot) (items : ItemEntries
     → new ≡ set_value (is_at (text_cmp name)) (set_value (is_at (text_cmp name)) old Dropped) (Settled items) → Settles old new name
 settles old name slot items new s there shows new_is =
     let made : new ≡ insert_entry text_cmp old name (Settled items) =
-        new_is ∙ set_again (is_at (text_cmp name)) old Dropped (Settled items) ∙ sym (insert_there nat_list_cmp_total old name (Settled items) slot s (sym there)) in
+    new_is ∙ set_again (is_at (text_cmp name)) old Dropped (Settled items) ∙ sym (insert_there nat_list_cmp_total old name (Settled items) slot s (sym there)) in
     subst (λ n. Settles old n name) (sym made) (record {
       rises = rising-placed nat_list_cmp_total old name (Some (Settled items)) s;
       shown = settled_shown old name slot items s (sym there) shows;

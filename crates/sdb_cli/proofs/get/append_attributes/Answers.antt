@@ -1,4 +1,4 @@
-use Rattle.std.proofs.Common.{◌≡◌, ◌<◌, ◌+◌, ◌++◌, length, take, refl, sym, ◌∙◌, ap, arith, append-nil, take_all, length-take}
+use Rattle.std.proofs.Common.{◌≡◌, ◌+◌, ◌++◌, length, take, refl, sym, ◌∙◌, ap, arith, append-nil, take_all, length-take}
 use Rattle.sdb_cli.specs.Body.{attributes}
 use Rattle.sdb_cli.specs.Gets.{asked_pairs}
 use Rattle.sdb_cli.proofs.GetLemmas.{asked-text, asked-count, asked-skip}

@@ -23,4 +23,3 @@ returns-clause-logs c =
     step_logs accounts place lt c.step.new.self c.args.change.now c.in_ok-undo.undo (c.index_of-place.ensures.place ∙ c.account_id.ensures)
     (subst (λ (a : AccountKept). AccountSteps a c.step.new.self c.args.change.now c.in_ok-undo.undo) (sym here) c.in_ok-undo.ensures.ok)
     c.args.log.now.items c.push.new.self.items (c.in_ok-push.ensures.items ∙ ap (λ l. l ++ c.in_ok-undo.undo ∷ []) c.in_ok-reserve.ensures.items)
-

@@ -1,5 +1,4 @@
-use Rattle.std.proofs.Common.{sym, not, ap, subst, Bool, ◌∙◌, false, true}
-use Rattle.std.specs.Prelude.{IsTrue}
+use Rattle.std.proofs.Common.{sym, not, ap}
 use Rattle.sdb_cli.proofs.LongLemmas.{held-long, long_line-some}
 use Rattle.sdb_cli.proofs.held.HeldLine.is_empty.Goals as goal
 

@@ -1,6 +1,5 @@
-use Rattle.std.proofs.Common.{◌≡◌, ◌++◌, [], sym, ◌∙◌, ap}
+use Rattle.std.proofs.Common.{◌++◌, ◌∙◌, ap}
 use Rattle.std.proofs.lemmas.Result.{on_ok_weaker}
-use Rattle.sdb_cli.specs.Plain.{answer, after}
 use Rattle.sdb_cli.proofs.LongLemmas.{answer-alike, after-alike}
 use Rattle.sdb_cli.proofs.session.Session.answer_line.Goals as goal
 

@@ -1,4 +1,4 @@
-use Rattle.std.proofs.Common.{◌<◌, ◌++◌, [], List, ℕ, length, sym, ◌∙◌, ap, arith}
+use Rattle.std.proofs.Common.{◌<◌, ◌++◌, length, sym, ◌∙◌, ap}
 use Rattle.sdb_cli.specs.Standing.{standing}
 use Rattle.sdb_cli.proofs.LinesLemmas.{told-last, some_bytes}
 use Rattle.sdb_cli.proofs.session.Session.finish.Goals as goal
