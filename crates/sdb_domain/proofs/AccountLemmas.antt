@@ -1,7 +1,6 @@
 -- A change of one account.
-use Rattle.std.proofs.Common.{◌≡◌, ℕ, ◌+◌, ◌-◌, cond, List, [], ◌∷◌, length, Option, Some, None, refl, sym, ap, ◌∙◌, subst, is_eq, arith}
+use Rattle.std.proofs.Common.{◌≡◌, ℕ, ◌+◌, ◌-◌, cond, List, length, Option, Some, None, refl, sym, ap, ◌∙◌, subst, is_eq, arith}
 use Rattle.std.specs.List.{sum_by}
-use Rattle.std.specs.BTreeMap.{is_at}
 use Rattle.std.proofs.lemmas.Cmp.{tied_itself, nat_list_cmp_total}
 use Rattle.std.proofs.lemmas.Map.Lookups.{exact_bytes}
 use Rattle.sdb_base.specs.Texts.{text_cmp}
@@ -10,13 +9,11 @@ use Rattle.sdb_pairs.specs.Accounts.{ItemEntries}
 use Rattle.sdb_pairs.specs.Entries.{found, placed, IsRising}
 use Rattle.sdb_pairs.proofs.EntryLemmas.{found-placed}
 use Rattle.sdb_domain.specs.declared.slot.Step.{Step}
-use Rattle.sdb_domain.specs.declared.account.Undo.{Undo}
-use Rattle.sdb_domain.specs.Slots.{Slots, Domains, shown, domains_shown, AccountKept, IsWholeAccount, count_shown, weight_shown, weight_of_domain}
-use Rattle.sdb_domain.specs.Steps.{account_of, domain_of, items_after, Steps, step_undone, CanUndoStep, account_undone, CanUndoAccount, AccountSteps}
+use Rattle.sdb_domain.specs.Slots.{Slots, shown, domains_shown, AccountKept, IsWholeAccount, count_shown, weight_shown, weight_of_domain}
+use Rattle.sdb_domain.specs.Steps.{account_of, domain_of, items_after, Steps, step_undone, CanUndoStep, account_undone, AccountSteps}
 use Rattle.sdb_domain.proofs.EntryViews.{sum_placed, adds}
 use Rattle.sdb_domain.proofs.ItemSums.{length_as_sum}
 use Rattle.sdb_domain.proofs.SeenLemmas.{rising-seen}
-
 
 count_adds : (k : List ℕ) (o : Option ItemEntries) → count_shown o ≡ adds nat_list_cmp_total exact_bytes (λ (domain : List ℕ × ItemEntries). 1) k o
 count_adds k None = refl
@@ -58,17 +55,17 @@ module _ (old : AccountKept) (slots : Slots) (name : List ℕ) (items : Option I
 
   pub whole_after : (count weight : ℕ) → count ≡ old.count + count_shown (found text_cmp (domains_shown slots) name) - count_shown (found text_cmp (domains_shown old.slots) name)
       → weight ≡ old.weight + weight_shown (found text_cmp (domains_shown slots) name) - weight_shown (found text_cmp (domains_shown old.slots) name)
-      → IsWholeAccount (record {slots = slots; count = count; weight = weight})
+      → IsWholeAccount (record { slots = slots; count = count; weight = weight })
   whole_after count weight c w = record { rise = rises; count = c ∙ count_after; weight = w ∙ weight_after }
 
-  pub back_after : (account : ℕ) (kept_name : List ℕ) (count weight : ℕ) → kept_name ≡ name → account_undone (record {slots = slots; count = count; weight = weight}) (record {account = account; name = kept_name; step = step; count = old.count; weight = old.weight}) ≡ old
+  pub back_after : (account : ℕ) (kept_name : List ℕ) (count weight : ℕ) → kept_name ≡ name → account_undone (record { slots = slots; count = count; weight = weight }) (record { account = account; name = kept_name; step = step; count = old.count; weight = old.weight }) ≡ old
   back_after account kept_name count weight e =
       let back : step_undone slots kept_name step ≡ old.slots = ap (λ n. step_undone slots n step) e ∙ steps.taken_back in
       λ i. record { slots = back i; count = old.count; weight = old.weight }
 
 pub account_steps : (old : AccountKept) (slots : Slots) (change : Change) (step : Step) (account : ℕ) (kept_name : List ℕ) (count weight : ℕ) → IsWholeAccount old
     → Steps old.slots slots (domain_of change) (items_after (found text_cmp (domains_shown old.slots) (domain_of change)) change) step → IsRising text_cmp slots → account ≡ account_of change → kept_name ≡ domain_of change
-    → AccountSteps old (record {slots = slots; count = count; weight = weight}) change (record {account = account; name = kept_name; step = step; count = old.count; weight = old.weight})
+    → AccountSteps old (record { slots = slots; count = count; weight = weight }) change (record { account = account; name = kept_name; step = step; count = old.count; weight = old.weight })
 account_steps old slots change step account kept_name count weight whole steps rises same e =
     let items = items_after (found text_cmp (domains_shown old.slots) (domain_of change)) change in
     let back = back_after old slots (domain_of change) items step whole steps rises account kept_name count weight e in

@@ -1,7 +1,7 @@
 -- The numbers that describe a domain are those of its items.
-use Rattle.std.proofs.Common.{◌≡◌, ℕ, zero, suc, ◌+◌, ◌<◌, ◌≤◌, ◌^◌, Bool, true, false, cond, ◌||◌, List, [], ◌∷◌, ◌++◌, length, map, fold, Option, Some, None, Ordering, Less, Equal, Greater, refl, sym, ap, ◌∙◌, subst, is_eq, is_some, nat_lt, lt-ltb, arith, unwrap_or, min, ◌-◌, length-append}
+use Rattle.std.proofs.Common.{◌≡◌, ℕ, zero, suc, ◌+◌, ◌<◌, ◌≤◌, ◌^◌, Bool, true, false, cond, ◌||◌, List, [], ◌∷◌, ◌++◌, length, map, fold, Option, Some, None, refl, sym, ap, ◌∙◌, is_some, nat_lt, lt-ltb, arith, unwrap_or, min, ◌-◌, length-append}
 use Rattle.std.specs.Ordering.{eq_by_cmp, match_ordering}
-use Rattle.std.specs.List.{sum_by, count_by, list_any}
+use Rattle.std.specs.List.{sum_by, count_by}
 use Rattle.std.specs.List.Sorted.{IsStrictlySortedBy}
 use Rattle.std.specs.Map.{keys_of}
 use Rattle.std.specs.BTreeMap.{is_at}
@@ -15,8 +15,7 @@ use Rattle.sdb_pairs.specs.Accounts.{ItemEntries}
 use Rattle.sdb_pairs.specs.Changes.{item_with}
 use Rattle.sdb_pairs.specs.Entries.{found, IsRising}
 use Rattle.sdb_pairs.specs.Pairs.{is_named}
-use Rattle.sdb_pairs.proofs.KeyLemmas.{by_bool, by_ordering, has, has-insert_key, same_members, rising-insert_key}
-use Rattle.sdb_domain.specs.declared.metadata.Metadata.{Metadata}
+use Rattle.sdb_pairs.proofs.KeyLemmas.{by_ordering, has, has-insert_key, same_members, rising-insert_key}
 use Rattle.sdb_domain.specs.Held.{Kept, IsWhole, items_kept, NameCounts, count_of, counted, names_counted}
 use Rattle.sdb_domain.specs.Keyed.{seen, with_shown}
 use Rattle.sdb_domain.proofs.RangeLemmas.{seen-append, append_nil}
@@ -187,7 +186,7 @@ name_bytes_fit kept whole s =
     omega arith
 
 pub describes : (kept : Kept) (names name_bytes : ℕ) → IsWhole kept → IsRising text_cmp kept.names → names ≡ length (names_counted kept.names) → name_bytes ≡ sum_by length (names_counted kept.names)
-    → Describes (items_kept kept) (record {items = kept.sums.items; item_bytes = kept.sums.item_bytes; names = names; name_bytes = name_bytes; pairs = kept.sums.pairs; value_bytes = kept.sums.value_bytes})
+    → Describes (items_kept kept) (record { items = kept.sums.items; item_bytes = kept.sums.item_bytes; names = names; name_bytes = name_bytes; pairs = kept.sums.pairs; value_bytes = kept.sums.value_bytes })
 describes kept names name_bytes whole s count bytes = record {
   items_are = count_is kept whole;
   item_bytes_are = item_bytes_is kept whole;
@@ -236,6 +235,6 @@ module _ (all front rest : NameCounts) (k : List ℕ) (n : ℕ) (is : all ≡ fr
       let one : sum_by {X = List ℕ} length (k ∷ []) ≡ length k = let l = sum_by-cons {X = List ℕ} length k [] in omega arith in
       let more : sum_by length (names_counted (front ++ (k, n) ∷ [])) ≡ sum_by length (names_counted front) + sum_by {X = List ℕ} length (k ∷ []) = ap (sum_by length) (names_more ne) ∙ sum_by-append length (names_counted front) (k ∷ []) in
       let whole : sum_by length (names_counted all) ≡ sum_by length (names_counted front) + sum_by length (names_counted ((k, n) ∷ rest)) =
-          ap (λ l. sum_by length (names_counted l)) is ∙ ap (sum_by length) (names_joined front ((k, n) ∷ rest)) ∙ sum_by-append length (names_counted front) (names_counted ((k, n) ∷ rest)) in
+      ap (λ l. sum_by length (names_counted l)) is ∙ ap (sum_by length) (names_joined front ((k, n) ∷ rest)) ∙ sum_by-append length (names_counted front) (names_counted ((k, n) ∷ rest)) in
       let later : sum_by length (names_counted ((k, n) ∷ rest)) ≡ length k + sum_by length (names_counted rest) = ap (sum_by length) (first_counted k n rest ne) ∙ sum_by-cons length k (names_counted rest) in
       omega arith

@@ -1,5 +1,5 @@
 -- The domains of all accounts as one list: what is found in it, and what a change of one account makes of it.
-use Rattle.std.proofs.Common.{◌≡◌, ℕ, zero, suc, ◌+◌, ◌==◌, ◌<◌, ◌≤◌, filter, slice_get, option_map, is_lt, eq-eqb, Bool, true, false, cond, List, [], ◌∷◌, ◌++◌, length, map, set, Option, Some, None, Ordering, Less, Equal, Greater, refl, sym, ap, ◌∙◌, subst, is_eq, arith, nat_cmp}
+use Rattle.std.proofs.Common.{◌≡◌, ℕ, zero, suc, ◌+◌, ◌==◌, ◌<◌, filter, slice_get, option_map, is_lt, eq-eqb, Bool, true, false, cond, List, [], ◌∷◌, ◌++◌, length, map, set, Option, Some, None, Ordering, Less, Equal, Greater, refl, sym, ap, ◌∙◌, is_eq, arith}
 use Rattle.std.specs.Cmp.{nat_cmp_is}
 use Rattle.std.specs.Ordering.{ordering_then, match_ordering}
 use Rattle.std.specs.Map.{remove_entry}
@@ -17,7 +17,7 @@ use Rattle.sdb_pairs.specs.declared.change.Change.TheVariants.{MakeDomain, DropD
 use Rattle.sdb_pairs.specs.Accounts.{ItemEntries, DomainEntries, domain_cmp, items_of}
 use Rattle.sdb_pairs.specs.Changes.{after}
 use Rattle.sdb_pairs.specs.Entries.{found, placed}
-use Rattle.sdb_domain.specs.Slots.{Domains, domains_shown, AccountKept, no_account, numbered, accounts_shown, account_at, weight_of_domain}
+use Rattle.sdb_domain.specs.Slots.{Domains, domains_shown, AccountKept, numbered, accounts_shown, account_at, weight_of_domain}
 use Rattle.sdb_domain.specs.Steps.{account_of, domain_of, items_after}
 
 -- ---- entries in front of a key, and behind it
@@ -85,13 +85,13 @@ placed_tagged n (d ∷ ds) q None =
     let ih = placed_tagged n ds q None in
     ap (λ r. cond (is_eq r) (tagged n ds) (((n, d.0), d.1) ∷ remove_entry (is_at (domain_cmp (n, q))) (tagged n ds))) (same_account n q d.0)
     ∙ elim (is_at (text_cmp q) d.0) as (λ b. cond b (tagged n ds) (((n, d.0), d.1) ∷ remove_entry (is_at (domain_cmp (n, q))) (tagged n ds)) ≡ tagged n (cond b ds (d ∷ remove_entry (is_at (text_cmp q)) ds)))
-      [ true ↦ refl | false ↦ ap (λ l. ((n, d.0), d.1) ∷ l) ih ]
+    [ true ↦ refl | false ↦ ap (λ l. ((n, d.0), d.1) ∷ l) ih ]
 placed_tagged n (d ∷ ds) q (Some v) =
     let ih = placed_tagged n ds q (Some v) in
     let e : (ℕ × List ℕ) × ItemEntries = ((n, d.0), d.1) in
     ap (λ r. match_ordering r (((n, q), v) ∷ e ∷ tagged n ds) ((e.0, v) ∷ tagged n ds) (e ∷ insert_entry domain_cmp (tagged n ds) (n, q) v)) (same_account n q d.0)
     ∙ elim (text_cmp q d.0) as (λ r. match_ordering r (((n, q), v) ∷ e ∷ tagged n ds) ((e.0, v) ∷ tagged n ds) (e ∷ insert_entry domain_cmp (tagged n ds) (n, q) v) ≡ tagged n (match_ordering r ((q, v) ∷ d ∷ ds) ((d.0, v) ∷ ds) (d ∷ insert_entry text_cmp ds q v)))
-      [ Less ↦ refl | Equal ↦ refl | Greater ↦ ap (λ l. e ∷ l) ih ]
+    [ Less ↦ refl | Equal ↦ refl | Greater ↦ ap (λ l. e ∷ l) ih ]
 
 past_tagged : (m n : ℕ) (q : List ℕ) (ds : Domains) → n < m → AllByRecursion (λ e. domain_cmp (m, q) e.0 ≡ Greater) (tagged n ds)
 past_tagged m n q [] lt = tt

@@ -1,5 +1,5 @@
 -- What is seen of the entries above a key.
-use Rattle.std.proofs.Common.{◌≡◌, ℕ, Bool, true, false, cond, not, ◌&&◌, List, [], ◌∷◌, ◌++◌, filter, slice_get, Option, Some, None, refl, sym, ap, ◌∙◌, is_lt, IfSome, Bor}
+use Rattle.std.proofs.Common.{◌≡◌, ℕ, Bool, true, false, cond, ◌&&◌, List, [], ◌∷◌, ◌++◌, filter, slice_get, Option, Some, None, refl, sym, ap, ◌∙◌, is_lt, IfSome, Bor}
 use Rattle.std.specs.Option.{option_copied}
 use Rattle.std.specs.Bound.{bound_map}
 use Rattle.std.specs.BTreeMap.Range.{range_contains}
@@ -56,6 +56,7 @@ module _ {X Y : Type 0} (see : X → Option Y) where
       kept : (o : Option Y) → test e.0 ≡ true → filter (λ x. test x.0) (with_shown e.0 o (seen see es)) ≡ with_shown e.0 o (filter (λ x. test x.0) (seen see es))
       kept None t = refl
       kept (Some y) t = ap (λ b. cond b ((e.0, y) ∷ filter (λ x. test x.0) (seen see es)) (filter (λ x. test x.0) (seen see es))) t
+
       lost : (o : Option Y) → test e.0 ≡ false → filter (λ x. test x.0) (with_shown e.0 o (seen see es)) ≡ filter (λ x. test x.0) (seen see es)
       lost None f = refl
       lost (Some y) f = ap (λ b. cond b ((e.0, y) ∷ filter (λ x. test x.0) (seen see es)) (filter (λ x. test x.0) (seen see es))) f

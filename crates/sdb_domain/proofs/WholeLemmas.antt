@@ -1,29 +1,24 @@
 -- What is kept of a domain stays right when a row is written.
-use Rattle.std.proofs.Common.{◌≡◌, ℕ, ◌+◌, ◌-◌, ◌≤◌, Bool, true, false, cond, List, [], ◌∷◌, Option, Some, None, refl, sym, ap, ◌∙◌, subst, arith, unwrap_or, fold, All, IfSome}
-use Rattle.std.specs.Cmp.{IsTotalOrder}
+use Rattle.std.proofs.Common.{◌≡◌, ℕ, ◌+◌, ◌-◌, Bool, true, false, cond, List, [], ◌∷◌, Option, Some, None, refl, sym, ap, ◌∙◌, subst, arith, unwrap_or, fold}
 use Rattle.std.specs.List.{sum_by, count_by}
-use Rattle.std.specs.List.Sorted.{IsStrictlySortedBy}
 use Rattle.std.specs.Map.{remove_entry}
 use Rattle.std.specs.BTreeMap.{is_at, insert_entry}
-use Rattle.std.specs.Str.{bytes_eq}
 use Rattle.std.proofs.lemmas.Cmp.{nat_list_cmp_total, eq_by_cmp_equiv}
 use Rattle.std.proofs.lemmas.List.Sums.{sum_by-cons}
 use Rattle.std.proofs.lemmas.Map.Lookups.{exact_bytes}
 use Rattle.std.proofs.lemmas.Map.Text.{is_eq-slice_cmp}
-use Rattle.std.proofs.lemmas.Map.Views.{IfSome-lookup_from_All}
 use Rattle.sdb_base.specs.Texts.{text_cmp}
 use Rattle.sdb_pairs.specs.declared.pair.Pair.{Pair}
 use Rattle.sdb_pairs.specs.declared.op.Op.{Op}
 use Rattle.sdb_pairs.specs.Accounts.{ItemEntries, pairs_at}
 use Rattle.sdb_pairs.specs.Entries.{found, IsRising}
-use Rattle.sdb_pairs.specs.Pairs.{pair_cmp, is_named, merged}
+use Rattle.sdb_pairs.specs.Pairs.{is_named, merged}
 use Rattle.sdb_pairs.proofs.KeyLemmas.{by_bool}
 use Rattle.sdb_pairs.proofs.EntryLemmas.{found-insert, found-placed, rising-placed}
-use Rattle.sdb_pairs.proofs.PairLemmas.{rising_merged, rising_none}
 use Rattle.sdb_pairs.proofs.StateLemmas.{key_at}
 use Rattle.sdb_domain.specs.declared.sums.Sums.{Sums}
-use Rattle.sdb_domain.specs.Held.{NameCounts, count_of, raised, lowered, recounted, Kept, with_row, nothing_kept, IsWhole, IsSwept, same, gone}
-use Rattle.sdb_domain.specs.Sums.{row_sums, no_sums, exchanged}
+use Rattle.sdb_domain.specs.Held.{NameCounts, count_of, raised, lowered, recounted, Kept, with_row, IsWhole, IsSwept, same, gone}
+use Rattle.sdb_domain.specs.Sums.{row_sums, exchanged}
 use Rattle.sdb_domain.specs.declared.names.NameWas.{NameWas}
 use Rattle.sdb_domain.specs.Held.{name_undone}
 use Rattle.sdb_domain.specs.Keyed.{back, unwound, seen}
@@ -123,7 +118,7 @@ module _ (kept : Kept) (name : List ℕ) (new : List Pair) (whole : IsWhole kept
 module _ (kept : Kept) (name : List ℕ) (key : List ℕ) (key_is : key ≡ name) (rows : ItemEntries) (names : NameCounts) where
   pub edit_made : (ops : List Op) (old item old' item' : List Pair) (sums : Sums) → old ≡ pairs_at kept.rows name → item ≡ merged old ops → old' ≡ old → item' ≡ item
       → rows ≡ insert_entry text_cmp kept.rows key item → names ≡ recounted kept.names old' item' → sums ≡ exchanged kept.sums (row_sums (name, old)) (row_sums (name, item))
-      → record {rows = rows; names = names; sums = sums} ≡ with_row kept name (merged (pairs_at kept.rows name) ops)
+      → record { rows = rows; names = names; sums = sums } ≡ with_row kept name (merged (pairs_at kept.rows name) ops)
   edit_made ops old item old' item' sums old_is item_is old_same item_same rows_are names_are sums_are =
       let it : item ≡ merged (pairs_at kept.rows name) ops = item_is ∙ ap (λ o. merged o ops) old_is in
       let r : rows ≡ insert_entry text_cmp kept.rows name (merged (pairs_at kept.rows name) ops) = rows_are ∙ (λ j. insert_entry text_cmp kept.rows (key_is j) (it j)) in
@@ -131,22 +126,22 @@ module _ (kept : Kept) (name : List ℕ) (key : List ℕ) (key_is : key ≡ name
       let t : item' ≡ merged (pairs_at kept.rows name) ops = item_same ∙ it in
       let n : names ≡ recounted kept.names (pairs_at kept.rows name) (merged (pairs_at kept.rows name) ops) = names_are ∙ (λ j. recounted kept.names (o j) (t j)) in
       let s : sums ≡ exchanged kept.sums (row_sums (name, pairs_at kept.rows name)) (row_sums (name, merged (pairs_at kept.rows name) ops)) =
-          sums_are ∙ (λ j. exchanged kept.sums (row_sums (name, old_is j)) (row_sums (name, it j))) in
-      λ i. record {rows = r i; names = n i; sums = s i}
+      sums_are ∙ (λ j. exchanged kept.sums (row_sums (name, old_is j)) (row_sums (name, it j))) in
+      λ i. record { rows = r i; names = n i; sums = s i }
 
   pub edit_back : (kept_name : List ℕ) (item : List Pair) (was : Option (List Pair)) (log : List NameWas) → kept_name ≡ name → IsRising text_cmp kept.rows
       → rows ≡ insert_entry text_cmp kept.rows key item → was ≡ found text_cmp kept.rows key → unwound name_undone names log ≡ kept.names
-      → record {rows = back rows kept_name was; names = unwound name_undone names log; sums = kept.sums} ≡ kept
+      → record { rows = back rows kept_name was; names = unwound name_undone names log; sums = kept.sums } ≡ kept
   edit_back kept_name item was log name_is s rows_are was_is back_names =
       let r : back rows kept_name was ≡ kept.rows =
-          (λ j. back ((rows_are ∙ (λ l. insert_entry text_cmp kept.rows (key_is l) item)) j) (name_is j) was)
-          ∙ back_inserted kept.rows name s item was (was_is ∙ ap (found text_cmp kept.rows) key_is) in
-      λ i. record {rows = r i; names = back_names i; sums = kept.sums}
+      (λ j. back ((rows_are ∙ (λ l. insert_entry text_cmp kept.rows (key_is l) item)) j) (name_is j) was)
+      ∙ back_inserted kept.rows name s item was (was_is ∙ ap (found text_cmp kept.rows) key_is) in
+      λ i. record { rows = r i; names = back_names i; sums = kept.sums }
 
 -- ---- a row without pairs, and a name without pairs, taken out
 
 pub whole_swept : (kept : Kept) (name : List ℕ) (rows : ItemEntries) (names : NameCounts) → IsWhole kept → IsSwept kept.rows rows name → ((q : List ℕ) → count_of names q ≡ count_of kept.names q)
-    → IsWhole (record {rows = rows; names = names; sums = kept.sums})
+    → IsWhole (record { rows = rows; names = names; sums = kept.sums })
 whole_swept kept name rows names whole (same e) counts = record {
   rows_rise = subst (IsRising text_cmp) (sym e) whole.rows_rise;
   counts = λ q. counts q ∙ whole.counts q ∙ ap (sum_by (λ row. count_by (is_named q) row.1)) (sym e);

@@ -162,10 +162,7 @@ fn sums_after(sums: (u64, u64), old: (u64, u64), new: (u64, u64)) -> Option<(u64
     ensures count { IfSome result (λ r. r.0 ≡ sums.0 + new.0 - old.0) }
     ensures weight { IfSome result (λ r. r.1 ≡ sums.1 + new.1 - old.1) }
 {
-    Some((
-        moved(sums.0, old.0, new.0)?,
-        moved(sums.1, old.1, new.1)?,
-    ))
+    Some((moved(sums.0, old.0, new.0)?, moved(sums.1, old.1, new.1)?))
 }
 
 pub(crate) fn account_id(change: &Change) -> AccountId
@@ -188,11 +185,7 @@ fn domain_name(change: &Change) -> &Text
     }
 }
 
-fn step_slots(
-    slots: &mut Keyed<Slot>,
-    alloc: Global,
-    change: &Change,
-) -> Result<Step, OutOfMemory>
+fn step_slots(slots: &mut Keyed<Slot>, alloc: Global, change: &Change) -> Result<Step, OutOfMemory>
     ensures ok { IfOk result (λ step. StepsTo slots.old slots.new (domain_of change.now) (items_after (found text_cmp (domains_shown slots.old) (domain_of change.now)) change.now) step) }
     ensures err { OnErr result (slots.new ≡ slots.old) }
 {

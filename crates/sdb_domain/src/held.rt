@@ -202,7 +202,11 @@ fn sums_after(sums: &Sums, name: &Text, old: &Item, new: &Item) -> Result<Sums, 
 fn shown_item(item: &Item) -> Option<&Item>
     ensures { option_map (λ i. i.now) result ≡ item_with item.now }
 {
-    if item.pairs().is_empty() { None } else { Some(item) }
+    if item.pairs().is_empty() {
+        None
+    } else {
+        Some(item)
+    }
 }
 
 // Takes the row out, where it has no pairs.

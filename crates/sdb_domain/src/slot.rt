@@ -65,11 +65,7 @@ pub(crate) fn shows(slot: &Slot) -> bool
 }
 
 // Makes the domain, where it isn't there.
-pub(crate) fn make(
-    slots: &mut Keyed<Slot>,
-    alloc: Global,
-    name: &Text,
-) -> Result<Step, OutOfMemory>
+pub(crate) fn make(slots: &mut Keyed<Slot>, alloc: Global, name: &Text) -> Result<Step, OutOfMemory>
     ensures ok { IfOk result (λ step. StepsTo slots.old slots.new name.now (Some (unwrap_or (found text_cmp (domains_shown slots.old) name.now) [])) step) }
     ensures err { OnErr result (slots.new ≡ slots.old) }
 {

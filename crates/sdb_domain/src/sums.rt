@@ -90,7 +90,9 @@ fn weight_of(pairs: &[Pair]) -> Option<u64>
 {
     let mut weight: u64 = 0;
     for pair in pairs {
-        let bytes = (pair.name.as_str().len() as u64).checked_add(pair.value.as_str().len() as u64)?;
+        let bytes = (pair.name.as_str().len() as u64).checked_add(
+            pair.value.as_str().len() as u64,
+        )?;
         weight = weight.checked_add(bytes.checked_add(OVERHEAD)?)?;
     }
     Some(weight)

@@ -5,6 +5,7 @@ use std::alloc::Global;
 use std::test::Fail;
 
 const FIRST: AccountId = AccountId(1);
+
 const LAST: AccountId = AccountId(16);
 
 fn text(alloc: Global, s: &str) -> Result<Text, OutOfMemory> {
@@ -33,12 +34,7 @@ fn add(
             value: text(alloc, value)?,
         }))?;
     }
-    Ok(Change::Edit(
-        account,
-        text(alloc, domain)?,
-        text(alloc, item)?,
-        ops,
-    ))
+    Ok(Change::Edit(account, text(alloc, domain)?, text(alloc, item)?, ops))
 }
 
 fn clear(
@@ -49,12 +45,7 @@ fn clear(
 ) -> Result<Change, OutOfMemory> {
     let mut ops = Ops::new(alloc);
     ops.push(Op::DropAll)?;
-    Ok(Change::Edit(
-        account,
-        text(alloc, domain)?,
-        text(alloc, item)?,
-        ops,
-    ))
+    Ok(Change::Edit(account, text(alloc, domain)?, text(alloc, item)?, ops))
 }
 
 fn apply(accounts: &mut Accounts, alloc: Global, change: Change) -> Result<(), OutOfMemory> {
@@ -88,8 +79,16 @@ struct Looked;
 fn domains_of_two_accounts_are_apart(rt: HostRuntime) -> Result<(), Fail> {
     let alloc = rt.alloc();
     let mut accounts = Accounts::new(alloc);
-    apply(&mut accounts, alloc, add(alloc, FIRST, "books", "i", &[("a", "1")])?)?;
-    apply(&mut accounts, alloc, add(alloc, LAST, "books", "i", &[("a", "1"), ("b", "22")])?)?;
+    apply(
+        &mut accounts,
+        alloc,
+        add(alloc, FIRST, "books", "i", &[("a", "1")])?,
+    )?;
+    apply(
+        &mut accounts,
+        alloc,
+        add(alloc, LAST, "books", "i", &[("a", "1"), ("b", "22")])?,
+    )?;
     assert_eq!(rt; pairs_of(&accounts, alloc, FIRST, "books", "i")?, Some(1));
     assert_eq!(rt; pairs_of(&accounts, alloc, LAST, "books", "i")?, Some(2));
     assert_eq!(rt; accounts.weight(FIRST), 65 + 66);
@@ -127,7 +126,11 @@ fn items_without_pairs_are_not_there(rt: HostRuntime) -> Result<(), Fail> {
     let alloc = rt.alloc();
     let mut accounts = Accounts::new(alloc);
     for item in ["c", "a", "b"] {
-        apply(&mut accounts, alloc, add(alloc, FIRST, "books", item, &[("k", "v")])?)?;
+        apply(
+            &mut accounts,
+            alloc,
+            add(alloc, FIRST, "books", item, &[("k", "v")])?,
+        )?;
     }
     apply(&mut accounts, alloc, clear(alloc, FIRST, "books", "b")?)?;
     apply(&mut accounts, alloc, clear(alloc, FIRST, "books", "d")?)?;
@@ -147,7 +150,11 @@ fn items_without_pairs_are_not_there(rt: HostRuntime) -> Result<(), Fail> {
     assert!(rt; books.scan(Some(second), &mut items).is_none());
     assert!(rt; books.item(&text(alloc, "b")?, &mut items).is_none());
     assert!(rt; books.held_name(&text(alloc, "b")?).is_none());
-    assert!(rt; books.held_name(&text(alloc, "c")?).is_some_and(|name| name.as_str() == "c"));
+    assert!(rt;
+        books
+            .held_name(&text(alloc, "c")?)
+            .is_some_and(|name| name.as_str() == "c")
+    );
     assert_eq!(rt; books.item_count(), 2);
     Ok(())
 }
@@ -156,7 +163,11 @@ fn items_without_pairs_are_not_there(rt: HostRuntime) -> Result<(), Fail> {
 fn one_change_that_fails_leaves_none(rt: HostRuntime) -> Result<(), Fail> {
     let alloc = rt.alloc();
     let mut accounts = Accounts::new(alloc);
-    apply(&mut accounts, alloc, add(alloc, FIRST, "books", "i", &[("a", "1")])?)?;
+    apply(
+        &mut accounts,
+        alloc,
+        add(alloc, FIRST, "books", "i", &[("a", "1")])?,
+    )?;
     let mut changes = Changes::new(alloc);
     changes.push(make(alloc, FIRST, "music")?)?;
     changes.push(add(alloc, FIRST, "books", "i", &[("b", "2")])?)?;
@@ -172,8 +183,14 @@ fn one_change_that_fails_leaves_none(rt: HostRuntime) -> Result<(), Fail> {
     assert_eq!(rt; accounts.domain_count(FIRST), count);
     assert_eq!(rt; accounts.weight(FIRST), weight);
     assert_eq!(rt; pairs_of(&accounts, alloc, FIRST, "books", "i")?, pairs);
-    assert_eq!(rt; accounts.domain(FIRST, &text(alloc, "music")?).is_some(), applied);
-    assert_eq!(rt; accounts.domain(FIRST, &text(alloc, "films")?).is_some(), applied);
+    assert_eq!(rt;
+        accounts.domain(FIRST, &text(alloc, "music")?).is_some(),
+        applied
+    );
+    assert_eq!(rt;
+        accounts.domain(FIRST, &text(alloc, "films")?).is_some(),
+        applied
+    );
     Ok(())
 }
 
@@ -186,11 +203,19 @@ fn counts_are_those_of_a_plain_count(rt: HostRuntime) -> Result<(), Fail> {
         let value = format!(in alloc; "{n}")?;
         let name = format!(in alloc; "name{}", n % 4)?;
         let pairs = [("kind", "x"), (name.as_str(), value.as_str())];
-        apply(&mut accounts, alloc, add(alloc, FIRST, "books", item.as_str(), &pairs)?)?;
+        apply(
+            &mut accounts,
+            alloc,
+            add(alloc, FIRST, "books", item.as_str(), &pairs)?,
+        )?;
     }
     for n in (0..1000u32).filter(|n| n % 2 == 0) {
         let item = format!(in alloc; "item{n:04}")?;
-        apply(&mut accounts, alloc, clear(alloc, FIRST, "books", item.as_str())?)?;
+        apply(
+            &mut accounts,
+            alloc,
+            clear(alloc, FIRST, "books", item.as_str())?,
+        )?;
     }
     let Some(books) = accounts.domain(FIRST, &text(alloc, "books")?) else {
         return Err("the domain is missing")?;

@@ -1,8 +1,7 @@
-use Rattle.std.proofs.Common.{◌≡◌, ℕ, ◌+◌, ◌<◌, List, length, get_or, ◌∙◌, sym, ap, subst, arith, ◌++◌, ◌∷◌, [], true≢false}
-use Rattle.sdb_domain.specs.declared.account.Undo.{Undo}
+use Rattle.std.proofs.Common.{◌≡◌, ◌<◌, length, get_or, ◌∙◌, sym, ap, subst, arith, ◌++◌, ◌∷◌, []}
 use Rattle.sdb_domain.specs.Slots.{AccountKept, account_at}
-use Rattle.sdb_domain.specs.Steps.{AccountSteps, account_of}
-use Rattle.sdb_domain.proofs.LogLemmas.{at_get, set_same, step_shown, step_logs, same_logs}
+use Rattle.sdb_domain.specs.Steps.{AccountSteps}
+use Rattle.sdb_domain.proofs.LogLemmas.{at_get, step_shown, step_logs}
 use Rattle.sdb_domain.proofs.accounts.step.Goals as goal
 
 pub returns-clause-ok : goal.returns-clause-ok
@@ -23,4 +22,3 @@ returns-clause-logs c =
     step_logs accounts place lt c.step.new.self c.args.change.now c.in_ok-undo.undo (c.index_of-place.ensures.place ∙ c.account_id.ensures)
     (subst (λ (a : AccountKept). AccountSteps a c.step.new.self c.args.change.now c.in_ok-undo.undo) (sym here) c.in_ok-undo.ensures.ok)
     c.args.log.now.items c.push.new.self.items (c.in_ok-push.ensures.items ∙ ap (λ l. l ++ c.in_ok-undo.undo ∷ []) c.in_ok-reserve.ensures.items)
-
