@@ -1,7 +1,6 @@
 -- A change of one account.
-use Rattle.std.proofs.Common.{◌≡◌, ℕ, ◌+◌, ◌-◌, cond, List, [], ◌∷◌, length, Option, Some, None, refl, sym, ap, ◌∙◌, subst, is_eq, arith}
+use Rattle.std.proofs.Common.{◌≡◌, ℕ, ◌+◌, ◌-◌, cond, List, length, Option, Some, None, refl, sym, ap, ◌∙◌, subst, is_eq, arith}
 use Rattle.std.specs.List.{sum_by}
-use Rattle.std.specs.BTreeMap.{is_at}
 use Rattle.std.proofs.lemmas.Cmp.{tied_itself, nat_list_cmp_total}
 use Rattle.std.proofs.lemmas.Map.Lookups.{exact_bytes}
 use Rattle.sdb_base.specs.Texts.{text_cmp}
@@ -10,9 +9,8 @@ use Rattle.sdb_pairs.specs.Accounts.{ItemEntries}
 use Rattle.sdb_pairs.specs.Entries.{found, placed, IsRising}
 use Rattle.sdb_pairs.proofs.EntryLemmas.{found-placed}
 use Rattle.sdb_domain.specs.declared.slot.Step.{Step}
-use Rattle.sdb_domain.specs.declared.account.Undo.{Undo}
-use Rattle.sdb_domain.specs.Slots.{Slots, Domains, shown, domains_shown, AccountKept, IsWholeAccount, count_shown, weight_shown, weight_of_domain}
-use Rattle.sdb_domain.specs.Steps.{account_of, domain_of, items_after, Steps, step_undone, CanUndoStep, account_undone, CanUndoAccount, AccountSteps}
+use Rattle.sdb_domain.specs.Slots.{Slots, shown, domains_shown, AccountKept, IsWholeAccount, count_shown, weight_shown, weight_of_domain}
+use Rattle.sdb_domain.specs.Steps.{account_of, domain_of, items_after, Steps, step_undone, CanUndoStep, account_undone, AccountSteps}
 use Rattle.sdb_domain.proofs.EntryViews.{sum_placed, adds}
 use Rattle.sdb_domain.proofs.ItemSums.{length_as_sum}
 use Rattle.sdb_domain.proofs.SeenLemmas.{rising-seen}

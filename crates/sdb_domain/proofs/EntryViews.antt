@@ -1,24 +1,22 @@
 -- Entries of which some are hidden, entries taken back, and sums over entries.
-use Rattle.std.proofs.Common.{◌≡◌, ℕ, ◌+◌, Bool, true, false, cond, List, [], ◌∷◌, ◌++◌, Option, Some, None, Ordering, Less, Equal, Greater, refl, sym, ap, ◌∙◌, subst, true≢false, is_eq, is_some, arith, unwrap_or, ◌≤◌}
+use Rattle.std.proofs.Common.{◌≡◌, ℕ, ◌+◌, Bool, true, false, cond, List, [], ◌∷◌, ◌++◌, Option, Some, None, Ordering, Less, Equal, Greater, refl, sym, ap, ◌∙◌, true≢false, is_eq, is_some, arith, unwrap_or, ◌≤◌}
 use Rattle.std.specs.Cmp.{IsTotalOrder}
 use Rattle.std.specs.Ordering.{match_ordering}
 use Rattle.std.specs.Map.{lookup, remove_entry, set_value, keys_of}
 use Rattle.std.specs.BTreeMap.{is_at, insert_entry}
-use Rattle.std.specs.List.{AllByRecursion, sum_by}
+use Rattle.std.specs.List.{sum_by}
 use Rattle.std.specs.List.Sorted.{IsStrictlySortedBy}
 use Rattle.std.proofs.lemmas.Cmp.{tied_itself, nat_list_cmp_total, eq_by_cmp_equiv}
 use Rattle.std.proofs.lemmas.Map.{lookup-none}
 use Rattle.std.proofs.lemmas.Map.Entries.{none_below_head, none_past_head}
 use Rattle.std.proofs.lemmas.Map.Keys.{IsDistinct-from_sorted}
-use Rattle.std.proofs.lemmas.Map.Lookups.{CmpEqualImpliesEq, exact_bytes}
+use Rattle.std.proofs.lemmas.Map.Lookups.{CmpEqualImpliesEq}
 use Rattle.std.proofs.lemmas.Map.Steps.{set_value_same}
 use Rattle.std.proofs.lemmas.List.Sums.{sum_by-cons}
 use Rattle.sdb_base.specs.Texts.{text_cmp}
 use Rattle.sdb_pairs.specs.Entries.{found, placed, IsRising}
 use Rattle.sdb_pairs.proofs.KeyLemmas.{by_bool, by_ordering}
-use Rattle.sdb_pairs.proofs.EntryLemmas.{found-insert, found-placed, rising-placed}
-use Rattle.sdb_pairs.proofs.AgreeLemmas.{same_entries}
-use Rattle.sdb_domain.specs.Keyed.{with_shown, seen, back, unwound}
+use Rattle.sdb_domain.specs.Keyed.{back, unwound}
 
 pub none_is_not_some : {X : Type 0} {P : Type 0} (x : X) → None ≡ Some x → P
 none_is_not_some x e = absurd (true≢false (sym (ap is_some e)))

@@ -1,5 +1,5 @@
 -- Steps on all accounts, with the log that takes them back.
-use Rattle.std.proofs.Common.{◌≡◌, ℕ, zero, suc, ◌+◌, ◌-◌, ◌<◌, ◌==◌, Bool, true, false, cond, ◌&&◌, ◌||◌, List, [], ◌∷◌, ◌++◌, length, set, get_or, replicate, Option, Some, None, refl, sym, ap, ◌∙◌, subst, arith, true≢false, IfSome, eq-eqb}
+use Rattle.std.proofs.Common.{◌≡◌, ℕ, zero, suc, ◌+◌, ◌-◌, ◌<◌, ◌==◌, Bool, true, false, ◌&&◌, ◌||◌, List, [], ◌∷◌, ◌++◌, length, set, get_or, replicate, refl, sym, ap, ◌∙◌, subst, arith, true≢false, IfSome, eq-eqb}
 use Rattle.std.specs.BTreeMap.{is_at}
 use Rattle.std.specs.List.{list_any}
 use Rattle.std.proofs.lemmas.Map.Lookups.{exact_bytes}
@@ -17,7 +17,7 @@ use Rattle.sdb_pairs.proofs.KeyLemmas.{by_bool}
 use Rattle.sdb_domain.specs.declared.account.Undo.{Undo}
 use Rattle.sdb_domain.specs.Keyed.{unwound}
 use Rattle.sdb_domain.specs.Slots.{AccountKept, no_account, account_at, accounts_shown, domains_shown, IsSettled, AreKept}
-use Rattle.sdb_domain.specs.Steps.{AccountSteps, account_of, domain_of, account_undone, all_undone, CanUndoAll, CanUndoAccount, AreSettledBut, touches, Logs, Settles}
+use Rattle.sdb_domain.specs.Steps.{AccountSteps, account_of, account_undone, all_undone, CanUndoAll, CanUndoAccount, AreSettledBut, touches, Logs, Settles}
 use Rattle.sdb_domain.proofs.EntryViews.{unwound_more}
 use Rattle.sdb_domain.proofs.NumberLemmas.{change_shown, settled_one_shown}
 

@@ -1,7 +1,7 @@
 -- The numbers that describe a domain are those of its items.
-use Rattle.std.proofs.Common.{◌≡◌, ℕ, zero, suc, ◌+◌, ◌<◌, ◌≤◌, ◌^◌, Bool, true, false, cond, ◌||◌, List, [], ◌∷◌, ◌++◌, length, map, fold, Option, Some, None, Ordering, Less, Equal, Greater, refl, sym, ap, ◌∙◌, subst, is_eq, is_some, nat_lt, lt-ltb, arith, unwrap_or, min, ◌-◌, length-append}
+use Rattle.std.proofs.Common.{◌≡◌, ℕ, zero, suc, ◌+◌, ◌<◌, ◌≤◌, ◌^◌, Bool, true, false, cond, ◌||◌, List, [], ◌∷◌, ◌++◌, length, map, fold, Option, Some, None, refl, sym, ap, ◌∙◌, is_some, nat_lt, lt-ltb, arith, unwrap_or, min, ◌-◌, length-append}
 use Rattle.std.specs.Ordering.{eq_by_cmp, match_ordering}
-use Rattle.std.specs.List.{sum_by, count_by, list_any}
+use Rattle.std.specs.List.{sum_by, count_by}
 use Rattle.std.specs.List.Sorted.{IsStrictlySortedBy}
 use Rattle.std.specs.Map.{keys_of}
 use Rattle.std.specs.BTreeMap.{is_at}
@@ -15,8 +15,7 @@ use Rattle.sdb_pairs.specs.Accounts.{ItemEntries}
 use Rattle.sdb_pairs.specs.Changes.{item_with}
 use Rattle.sdb_pairs.specs.Entries.{found, IsRising}
 use Rattle.sdb_pairs.specs.Pairs.{is_named}
-use Rattle.sdb_pairs.proofs.KeyLemmas.{by_bool, by_ordering, has, has-insert_key, same_members, rising-insert_key}
-use Rattle.sdb_domain.specs.declared.metadata.Metadata.{Metadata}
+use Rattle.sdb_pairs.proofs.KeyLemmas.{by_ordering, has, has-insert_key, same_members, rising-insert_key}
 use Rattle.sdb_domain.specs.Held.{Kept, IsWhole, items_kept, NameCounts, count_of, counted, names_counted}
 use Rattle.sdb_domain.specs.Keyed.{seen, with_shown}
 use Rattle.sdb_domain.proofs.RangeLemmas.{seen-append, append_nil}

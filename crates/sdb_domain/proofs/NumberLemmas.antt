@@ -1,5 +1,5 @@
 -- The domains of all accounts as one list: what is found in it, and what a change of one account makes of it.
-use Rattle.std.proofs.Common.{◌≡◌, ℕ, zero, suc, ◌+◌, ◌==◌, ◌<◌, ◌≤◌, filter, slice_get, option_map, is_lt, eq-eqb, Bool, true, false, cond, List, [], ◌∷◌, ◌++◌, length, map, set, Option, Some, None, Ordering, Less, Equal, Greater, refl, sym, ap, ◌∙◌, subst, is_eq, arith, nat_cmp}
+use Rattle.std.proofs.Common.{◌≡◌, ℕ, zero, suc, ◌+◌, ◌==◌, ◌<◌, filter, slice_get, option_map, is_lt, eq-eqb, Bool, true, false, cond, List, [], ◌∷◌, ◌++◌, length, map, set, Option, Some, None, Ordering, Less, Equal, Greater, refl, sym, ap, ◌∙◌, is_eq, arith}
 use Rattle.std.specs.Cmp.{nat_cmp_is}
 use Rattle.std.specs.Ordering.{ordering_then, match_ordering}
 use Rattle.std.specs.Map.{remove_entry}
@@ -17,7 +17,7 @@ use Rattle.sdb_pairs.specs.declared.change.Change.TheVariants.{MakeDomain, DropD
 use Rattle.sdb_pairs.specs.Accounts.{ItemEntries, DomainEntries, domain_cmp, items_of}
 use Rattle.sdb_pairs.specs.Changes.{after}
 use Rattle.sdb_pairs.specs.Entries.{found, placed}
-use Rattle.sdb_domain.specs.Slots.{Domains, domains_shown, AccountKept, no_account, numbered, accounts_shown, account_at, weight_of_domain}
+use Rattle.sdb_domain.specs.Slots.{Domains, domains_shown, AccountKept, numbered, accounts_shown, account_at, weight_of_domain}
 use Rattle.sdb_domain.specs.Steps.{account_of, domain_of, items_after}
 
 -- ---- entries in front of a key, and behind it

@@ -1,5 +1,5 @@
 -- What is seen of the entries above a key.
-use Rattle.std.proofs.Common.{◌≡◌, ℕ, Bool, true, false, cond, not, ◌&&◌, List, [], ◌∷◌, ◌++◌, filter, slice_get, Option, Some, None, refl, sym, ap, ◌∙◌, is_lt, IfSome, Bor}
+use Rattle.std.proofs.Common.{◌≡◌, ℕ, Bool, true, false, cond, ◌&&◌, List, [], ◌∷◌, ◌++◌, filter, slice_get, Option, Some, None, refl, sym, ap, ◌∙◌, is_lt, IfSome, Bor}
 use Rattle.std.specs.Option.{option_copied}
 use Rattle.std.specs.Bound.{bound_map}
 use Rattle.std.specs.BTreeMap.Range.{range_contains}

@@ -1,6 +1,6 @@
 -- Entries of which some are hidden: what is found in them, their order, and sums over them.
-use Rattle.std.proofs.Common.{◌≡◌, ℕ, ◌+◌, Bool, true, false, cond, List, [], ◌∷◌, length, Option, Some, None, Ordering, Less, refl, sym, ap, ◌∙◌, is_some, arith, unwrap_or}
-use Rattle.std.specs.Map.{set_value, remove_entry, keys_of}
+use Rattle.std.proofs.Common.{◌≡◌, ℕ, ◌+◌, Bool, true, false, cond, List, [], ◌∷◌, Option, Some, None, Less, refl, sym, ap, ◌∙◌, arith}
+use Rattle.std.specs.Map.{remove_entry, keys_of}
 use Rattle.std.specs.BTreeMap.{is_at, insert_entry}
 use Rattle.std.specs.List.{AllByRecursion, sum_by}
 use Rattle.std.specs.List.Sorted.{IsStrictlySortedBy}

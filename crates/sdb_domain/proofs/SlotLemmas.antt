@@ -1,5 +1,5 @@
 -- Steps on the slots of an account.
-use Rattle.std.proofs.Common.{◌≡◌, ℕ, Bool, true, false, cond, List, [], ◌∷◌, Option, Some, None, refl, sym, ap, ◌∙◌, subst, unwrap_or, is_eq, is_some, true≢false, IfSome}
+use Rattle.std.proofs.Common.{◌≡◌, ℕ, Bool, true, false, cond, List, [], Option, Some, None, refl, sym, ap, ◌∙◌, subst, unwrap_or, is_eq, is_some, true≢false, IfSome}
 use Rattle.std.specs.Map.{set_value, remove_entry}
 use Rattle.std.specs.BTreeMap.{is_at, insert_entry}
 use Rattle.std.specs.List.Sorted.{IsStrictlySortedBy}
@@ -17,7 +17,6 @@ use Rattle.sdb_domain.specs.declared.slot.Slot.TheVariants.{Settled, Open, Dropp
 use Rattle.sdb_domain.specs.declared.slot.Step.TheVariants.{Same, Slot as SlotWas, Row}
 use Rattle.sdb_domain.specs.declared.held.RowWas.{RowWas}
 use Rattle.sdb_domain.specs.Held.{Kept, items_kept, IsWhole, with_row, nothing_kept}
-use Rattle.sdb_domain.specs.Keyed.{back}
 use Rattle.sdb_domain.specs.Slots.{Slots, shown, domains_shown, IsSettled}
 use Rattle.sdb_domain.specs.Steps.{Steps, Settles, closed, step_undone, row_step_undone, CanUndoRow}
 use Rattle.sdb_domain.specs.Undo.{row_undone}

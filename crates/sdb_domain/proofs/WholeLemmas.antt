@@ -1,29 +1,24 @@
 -- What is kept of a domain stays right when a row is written.
-use Rattle.std.proofs.Common.{◌≡◌, ℕ, ◌+◌, ◌-◌, ◌≤◌, Bool, true, false, cond, List, [], ◌∷◌, Option, Some, None, refl, sym, ap, ◌∙◌, subst, arith, unwrap_or, fold, All, IfSome}
-use Rattle.std.specs.Cmp.{IsTotalOrder}
+use Rattle.std.proofs.Common.{◌≡◌, ℕ, ◌+◌, ◌-◌, Bool, true, false, cond, List, [], ◌∷◌, Option, Some, None, refl, sym, ap, ◌∙◌, subst, arith, unwrap_or, fold}
 use Rattle.std.specs.List.{sum_by, count_by}
-use Rattle.std.specs.List.Sorted.{IsStrictlySortedBy}
 use Rattle.std.specs.Map.{remove_entry}
 use Rattle.std.specs.BTreeMap.{is_at, insert_entry}
-use Rattle.std.specs.Str.{bytes_eq}
 use Rattle.std.proofs.lemmas.Cmp.{nat_list_cmp_total, eq_by_cmp_equiv}
 use Rattle.std.proofs.lemmas.List.Sums.{sum_by-cons}
 use Rattle.std.proofs.lemmas.Map.Lookups.{exact_bytes}
 use Rattle.std.proofs.lemmas.Map.Text.{is_eq-slice_cmp}
-use Rattle.std.proofs.lemmas.Map.Views.{IfSome-lookup_from_All}
 use Rattle.sdb_base.specs.Texts.{text_cmp}
 use Rattle.sdb_pairs.specs.declared.pair.Pair.{Pair}
 use Rattle.sdb_pairs.specs.declared.op.Op.{Op}
 use Rattle.sdb_pairs.specs.Accounts.{ItemEntries, pairs_at}
 use Rattle.sdb_pairs.specs.Entries.{found, IsRising}
-use Rattle.sdb_pairs.specs.Pairs.{pair_cmp, is_named, merged}
+use Rattle.sdb_pairs.specs.Pairs.{is_named, merged}
 use Rattle.sdb_pairs.proofs.KeyLemmas.{by_bool}
 use Rattle.sdb_pairs.proofs.EntryLemmas.{found-insert, found-placed, rising-placed}
-use Rattle.sdb_pairs.proofs.PairLemmas.{rising_merged, rising_none}
 use Rattle.sdb_pairs.proofs.StateLemmas.{key_at}
 use Rattle.sdb_domain.specs.declared.sums.Sums.{Sums}
-use Rattle.sdb_domain.specs.Held.{NameCounts, count_of, raised, lowered, recounted, Kept, with_row, nothing_kept, IsWhole, IsSwept, same, gone}
-use Rattle.sdb_domain.specs.Sums.{row_sums, no_sums, exchanged}
+use Rattle.sdb_domain.specs.Held.{NameCounts, count_of, raised, lowered, recounted, Kept, with_row, IsWhole, IsSwept, same, gone}
+use Rattle.sdb_domain.specs.Sums.{row_sums, exchanged}
 use Rattle.sdb_domain.specs.declared.names.NameWas.{NameWas}
 use Rattle.sdb_domain.specs.Held.{name_undone}
 use Rattle.sdb_domain.specs.Keyed.{back, unwound, seen}

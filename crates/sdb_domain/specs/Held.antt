@@ -1,19 +1,17 @@
 -- A domain's rows with what is kept beside them, and how steps on them are taken back.
-use Rattle.std.specs.Prelude.{◌≡◌, ℕ, zero, suc, ◌+◌, ◌-◌, List, [], ◌∷◌, Option, Some, None, fold, unwrap_or, All}
+use Rattle.std.specs.Prelude.{◌≡◌, ℕ, zero, suc, ◌+◌, ◌-◌, List, [], Option, Some, None, fold, unwrap_or}
 use Rattle.std.specs.List.{sum_by, count_by}
-use Rattle.std.specs.List.Sorted.{IsStrictlySortedBy}
 use Rattle.std.specs.Map.{remove_entry, keys_of}
 use Rattle.std.specs.BTreeMap.{is_at, insert_entry}
 use Rattle.sdb_base.specs.Texts.{text_cmp}
 use Rattle.sdb_pairs.specs.declared.pair.Pair.{Pair}
-use Rattle.sdb_pairs.specs.declared.op.Op.{Op}
 use Rattle.sdb_pairs.specs.Accounts.{ItemEntries, pairs_at}
 use Rattle.sdb_pairs.specs.Changes.{item_with}
 use Rattle.sdb_pairs.specs.Entries.{found, IsRising}
-use Rattle.sdb_pairs.specs.Pairs.{pair_cmp, is_named, merged}
+use Rattle.sdb_pairs.specs.Pairs.{is_named}
 use Rattle.sdb_domain.specs.declared.names.NameWas.{NameWas}
 use Rattle.sdb_domain.specs.declared.sums.Sums.{Sums}
-use Rattle.sdb_domain.specs.Keyed.{seen, back, unwound}
+use Rattle.sdb_domain.specs.Keyed.{seen, back}
 use Rattle.sdb_domain.specs.Sums.{row_sums, no_sums, exchanged}
 
 -- attribute names with the number of their pairs

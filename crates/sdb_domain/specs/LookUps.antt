@@ -1,5 +1,5 @@
 -- What is looked up in order.
-use Rattle.std.specs.Prelude.{ℕ, ◌==◌, List, Option, None, Some, filter, slice_get, is_some, if◌then◌else◌, option_map}
+use Rattle.std.specs.Prelude.{ℕ, List, Option, None, Some, filter, slice_get, is_some, if◌then◌else◌, option_map}
 use Rattle.std.specs.Ordering.{is_lt}
 use Rattle.sdb_base.specs.Texts.{text_cmp}
 use Rattle.sdb_pairs.specs.Accounts.{ItemEntries, DomainEntries}

@@ -1,9 +1,9 @@
 -- The numbers that describe a domain.
-use Rattle.std.specs.Prelude.{◌≡◌, ℕ, length}
+use Rattle.std.specs.Prelude.{◌≡◌, length}
 use Rattle.std.specs.List.{sum_by}
 use Rattle.sdb_pairs.specs.Accounts.{ItemEntries}
 use Rattle.sdb_domain.specs.declared.metadata.Metadata.{Metadata}
-use Rattle.sdb_domain.specs.Weights.{names_of, all_pairs, value_bytes_of}
+use Rattle.sdb_domain.specs.Weights.{names_of, value_bytes_of}
 
 -- the numbers are those of the items: how many they are, and the bytes of their names; how many distinct
 -- attribute names they have, and the bytes of those; how many pairs, and the bytes of their values

@@ -1,12 +1,12 @@
 -- The domains of one account as they are kept, and the accounts as one list.
-use Rattle.std.specs.Prelude.{◌≡◌, ◌≢◌, ℕ, zero, suc, ◌+◌, ◌-◌, ◌<◌, Bool, true, false, List, [], ◌∷◌, ◌++◌, length, map, Option, Some, None, IfSome}
+use Rattle.std.specs.Prelude.{◌≡◌, ℕ, zero, suc, ◌+◌, List, [], ◌∷◌, ◌++◌, length, map, Option, Some, None, IfSome}
 use Rattle.std.specs.List.{sum_by}
 use Rattle.sdb_base.specs.Texts.{text_cmp}
 use Rattle.sdb_pairs.specs.Accounts.{ItemEntries, DomainEntries, AreAccounts}
 use Rattle.sdb_pairs.specs.Entries.{found, IsRising}
 use Rattle.sdb_domain.specs.declared.slot.Slot.{Slot}
 use Rattle.sdb_domain.specs.declared.slot.Slot.TheVariants.{Settled, Open, Dropped}
-use Rattle.sdb_domain.specs.Held.{Kept, items_kept}
+use Rattle.sdb_domain.specs.Held.{items_kept}
 use Rattle.sdb_domain.specs.Keyed.{seen}
 use Rattle.sdb_domain.specs.Weights.{domain_weight}
 

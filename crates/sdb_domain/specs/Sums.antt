@@ -1,13 +1,6 @@
 -- The sums that a domain keeps beside its rows.
-use Rattle.std.specs.Prelude.{◌≡◌, ℕ, ◌+◌, ◌-◌, List, [], ◌∷◌, length, unwrap_or, All}
-use Rattle.std.specs.List.{sum_by, count_by}
-use Rattle.std.specs.Map.{values_of}
-use Rattle.std.specs.List.Sorted.{IsStrictlySortedBy}
-use Rattle.sdb_base.specs.Texts.{text_cmp}
+use Rattle.std.specs.Prelude.{ℕ, ◌+◌, ◌-◌, List, [], ◌∷◌, length}
 use Rattle.sdb_pairs.specs.declared.pair.Pair.{Pair}
-use Rattle.sdb_pairs.specs.Accounts.{ItemEntries}
-use Rattle.sdb_pairs.specs.Entries.{found, IsRising}
-use Rattle.sdb_pairs.specs.Pairs.{pair_cmp, is_named}
 use Rattle.sdb_domain.specs.declared.sums.Sums.{Sums}
 use Rattle.sdb_domain.specs.Weights.{item_weight, value_bytes_of}
 

@@ -1,5 +1,4 @@
 -- How steps on what is kept are taken back.
-use Rattle.std.specs.Prelude.{ℕ, List, [], ◌∷◌, Option, Some, None}
 use Rattle.sdb_domain.specs.declared.held.RowWas.{RowWas}
 use Rattle.sdb_domain.specs.Held.{Kept, name_undone}
 use Rattle.sdb_domain.specs.Keyed.{back, unwound}

@@ -1,4 +1,4 @@
-use Rattle.std.proofs.Common.{◌≡◌, ◌∙◌, sym, ap, Some, None}
+use Rattle.std.proofs.Common.{◌∙◌, sym, ap, Some, None}
 use Rattle.sdb_domain.specs.Slots.{count_shown, weight_shown}
 use Rattle.sdb_domain.proofs.SlotLemmas.{found_shown}
 use Rattle.sdb_domain.proofs.account.weigh.Goals as goal

@@ -1,4 +1,4 @@
-use Rattle.std.proofs.Common.{◌≡◌, ◌∙◌, sym, ap, subst, drop, suc, ◌∷◌, drop-cons, add-one, arith}
+use Rattle.std.proofs.Common.{◌∙◌, sym, ap, subst, drop, suc, ◌∷◌, drop-cons, add-one}
 use Rattle.sdb_domain.specs.Steps.{AreSettledBut}
 use Rattle.sdb_domain.proofs.accounts.settle_all.Goals as goal
 

@@ -1,4 +1,4 @@
-use Rattle.std.proofs.Common.{◌≡◌, ℕ, ◌+◌, ◌-◌, ◌<◌, length, get_or, ◌∙◌, sym, ap, subst, arith}
+use Rattle.std.proofs.Common.{◌≡◌, ◌<◌, length, get_or, ◌∙◌, sym, ap, subst, arith}
 use Rattle.sdb_domain.specs.Slots.{AccountKept, account_at, domains_shown}
 use Rattle.sdb_domain.specs.Steps.{Settles}
 use Rattle.sdb_domain.proofs.LogLemmas.{at_get, settle_shown, settle_rest}

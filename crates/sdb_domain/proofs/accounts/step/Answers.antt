@@ -1,8 +1,7 @@
-use Rattle.std.proofs.Common.{◌≡◌, ℕ, ◌+◌, ◌<◌, List, length, get_or, ◌∙◌, sym, ap, subst, arith, ◌++◌, ◌∷◌, [], true≢false}
-use Rattle.sdb_domain.specs.declared.account.Undo.{Undo}
+use Rattle.std.proofs.Common.{◌≡◌, ◌<◌, length, get_or, ◌∙◌, sym, ap, subst, arith, ◌++◌, ◌∷◌, []}
 use Rattle.sdb_domain.specs.Slots.{AccountKept, account_at}
-use Rattle.sdb_domain.specs.Steps.{AccountSteps, account_of}
-use Rattle.sdb_domain.proofs.LogLemmas.{at_get, set_same, step_shown, step_logs, same_logs}
+use Rattle.sdb_domain.specs.Steps.{AccountSteps}
+use Rattle.sdb_domain.proofs.LogLemmas.{at_get, step_shown, step_logs}
 use Rattle.sdb_domain.proofs.accounts.step.Goals as goal
 
 pub returns-clause-ok : goal.returns-clause-ok

@@ -1,4 +1,4 @@
-use Rattle.std.proofs.Common.{◌≡◌, ◌∙◌, sym, ap, arith}
+use Rattle.std.proofs.Common.{◌∙◌, sym}
 use Rattle.std.proofs.lemmas.List.Sums.{fold_more}
 use Rattle.sdb_pairs.specs.Changes.{after}
 use Rattle.sdb_domain.specs.Slots.{accounts_shown}

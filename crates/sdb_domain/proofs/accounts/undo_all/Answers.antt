@@ -1,4 +1,4 @@
-use Rattle.std.proofs.Common.{◌≡◌, ◌∙◌, sym, ap, subst, arith}
+use Rattle.std.proofs.Common.{◌∙◌, sym, ap, subst}
 use Rattle.sdb_domain.specs.Keyed.{unwound}
 use Rattle.sdb_domain.specs.Steps.{CanUndoAll, all_undone}
 use Rattle.sdb_domain.proofs.EntryViews.{unwound_more}

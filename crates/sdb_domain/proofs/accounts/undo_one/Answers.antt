@@ -1,4 +1,4 @@
-use Rattle.std.proofs.Common.{◌≡◌, ℕ, ◌+◌, ◌-◌, ◌<◌, length, get_or, set, ◌∙◌, sym, ap, subst, arith}
+use Rattle.std.proofs.Common.{◌≡◌, ◌-◌, ◌<◌, length, get_or, set, ◌∙◌, sym, ap, subst, arith}
 use Rattle.sdb_domain.specs.Slots.{AccountKept, account_at}
 use Rattle.sdb_domain.specs.Steps.{CanUndoAccount, account_undone}
 use Rattle.sdb_domain.proofs.LogLemmas.{at_get}

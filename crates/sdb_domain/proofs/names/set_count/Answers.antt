@@ -1,4 +1,4 @@
-use Rattle.std.proofs.Common.{◌∙◌, sym, ap, refl}
+use Rattle.std.proofs.Common.{◌∙◌, ap, refl}
 use Rattle.sdb_domain.specs.Held.{name_undone}
 use Rattle.sdb_domain.specs.Keyed.{unwound}
 use Rattle.sdb_domain.proofs.NameLemmas.{noted, set_noted}

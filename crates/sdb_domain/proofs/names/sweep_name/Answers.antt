@@ -1,4 +1,4 @@
-use Rattle.std.proofs.Common.{◌≡◌, ◌∙◌, sym, ap}
+use Rattle.std.proofs.Common.{◌∙◌, sym, ap}
 use Rattle.sdb_domain.specs.Held.{count_of}
 use Rattle.sdb_domain.proofs.WholeLemmas.{count_removed}
 use Rattle.sdb_domain.proofs.names.sweep_name.Goals as goal

@@ -1,4 +1,3 @@
-use Rattle.std.proofs.Common.{◌≡◌, ◌∙◌, sym, ap, subst}
 use Rattle.sdb_domain.proofs.SlotLemmas.{drop_steps}
 use Rattle.sdb_domain.proofs.slot.drop_at.Goals as goal
 

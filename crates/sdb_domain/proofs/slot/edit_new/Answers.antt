@@ -1,4 +1,3 @@
-use Rattle.std.proofs.Common.{◌≡◌, ◌∙◌, sym, ap}
 use Rattle.sdb_domain.proofs.SlotLemmas.{new_made}
 use Rattle.sdb_domain.proofs.slot.edit_new.Goals as goal
 

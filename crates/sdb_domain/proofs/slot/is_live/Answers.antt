@@ -1,4 +1,4 @@
-use Rattle.std.proofs.Common.{◌≡◌, ◌∙◌, sym, ap, Some, None, is_some}
+use Rattle.std.proofs.Common.{◌∙◌, sym, ap, Some, None, is_some}
 use Rattle.sdb_domain.proofs.SlotLemmas.{found_shown}
 use Rattle.sdb_domain.proofs.slot.is_live.Goals as goal
 

@@ -1,4 +1,4 @@
-use Rattle.std.proofs.Common.{◌≡◌, ◌∙◌, sym, ap}
+use Rattle.std.proofs.Common.{◌∙◌, sym}
 use Rattle.sdb_domain.proofs.SlotLemmas.{live_steps, make_steps}
 use Rattle.sdb_domain.proofs.slot.make.Goals as goal
 

@@ -1,4 +1,4 @@
-use Rattle.std.proofs.Common.{◌≡◌, ◌∙◌, sym, ap, length}
+use Rattle.std.proofs.Common.{◌∙◌, sym, ap, length}
 use Rattle.std.specs.List.{sum_by}
 use Rattle.sdb_domain.specs.Slots.{weight_of_domain}
 use Rattle.sdb_domain.proofs.account.Account.settle.Goals as goal

@@ -1,6 +1,5 @@
-use Rattle.std.proofs.Common.{◌≡◌, ◌∙◌, refl, sym, ap, subst, []}
+use Rattle.std.proofs.Common.{◌∙◌, refl, sym, subst}
 use Rattle.sdb_pairs.specs.Accounts.{AreAccounts}
-use Rattle.sdb_pairs.specs.Changes.{state}
 use Rattle.sdb_pairs.proofs.StateLemmas.{are_accounts_state}
 use Rattle.sdb_domain.specs.Slots.{accounts_shown}
 use Rattle.sdb_domain.specs.Steps.{AreSettledBut}

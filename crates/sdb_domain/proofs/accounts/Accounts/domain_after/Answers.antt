@@ -1,4 +1,4 @@
-use Rattle.std.proofs.Common.{◌≡◌, ℕ, ◌+◌, ◌<◌, length, get_or, ◌∙◌, sym, ap, arith, option_map, List}
+use Rattle.std.proofs.Common.{◌≡◌, ◌+◌, ◌<◌, length, get_or, ◌∙◌, sym, ap, arith, option_map}
 use Rattle.std.specs.Option.{option_copied}
 use Rattle.sdb_domain.specs.LookUps.{least_after, name_after}
 use Rattle.sdb_domain.specs.Slots.{AccountKept, account_at, domains_shown}

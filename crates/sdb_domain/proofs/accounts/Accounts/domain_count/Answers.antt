@@ -1,7 +1,6 @@
-use Rattle.std.proofs.Common.{◌≡◌, ℕ, ◌+◌, ◌<◌, length, get_or, ◌∙◌, sym, ap, arith}
-use Rattle.std.specs.List.{sum_by}
-use Rattle.sdb_domain.specs.Slots.{AccountKept, account_at, domains_shown, weight_of_domain}
-use Rattle.sdb_domain.specs.Weights.{domains_of, account_weight}
+use Rattle.std.proofs.Common.{◌≡◌, ◌+◌, ◌<◌, length, get_or, ◌∙◌, sym, ap, arith}
+use Rattle.sdb_domain.specs.Slots.{AccountKept, account_at, domains_shown}
+use Rattle.sdb_domain.specs.Weights.{domains_of}
 use Rattle.sdb_domain.proofs.LogLemmas.{at_get}
 use Rattle.sdb_domain.proofs.NumberLemmas.{count_of_account}
 use Rattle.sdb_domain.proofs.accounts.Accounts.domain_count.Goals as goal

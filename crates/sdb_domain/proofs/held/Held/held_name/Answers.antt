@@ -1,7 +1,5 @@
-use Rattle.std.proofs.Common.{◌≡◌, ◌∙◌, sym, ap, Some, None, refl}
-use Rattle.sdb_base.specs.Texts.{text_cmp}
+use Rattle.std.proofs.Common.{◌∙◌, ap, Some, None}
 use Rattle.sdb_pairs.specs.Changes.{item_with}
-use Rattle.sdb_pairs.specs.Entries.{found}
 use Rattle.sdb_domain.specs.Held.{Kept, items_kept}
 use Rattle.sdb_domain.specs.Keyed.{seen}
 use Rattle.sdb_domain.specs.LookUps.{held_text}

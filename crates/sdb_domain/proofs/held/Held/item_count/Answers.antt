@@ -1,6 +1,5 @@
-use Rattle.std.proofs.Common.{◌≡◌, ◌∙◌, ap, length}
+use Rattle.std.proofs.Common.{◌∙◌, ap, length}
 use Rattle.sdb_domain.specs.Held.{Kept, items_kept}
-use Rattle.sdb_domain.specs.Weights.{domain_weight}
 use Rattle.sdb_domain.proofs.ItemSums.{count_is}
 use Rattle.sdb_domain.proofs.held.Held.item_count.Goals as goal
 

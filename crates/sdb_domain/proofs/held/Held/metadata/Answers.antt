@@ -1,4 +1,4 @@
-use Rattle.std.proofs.Common.{◌≡◌, ◌≤◌, ◌∙◌, sym, ap, subst, length}
+use Rattle.std.proofs.Common.{◌≤◌, ◌∙◌, sym, ap, subst, length}
 use Rattle.std.specs.List.{sum_by}
 use Rattle.sdb_domain.specs.Held.{Kept, items_kept, names_counted}
 use Rattle.sdb_domain.specs.Metadata.{Describes}

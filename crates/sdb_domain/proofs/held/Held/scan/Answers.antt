@@ -1,9 +1,8 @@
-use Rattle.std.proofs.Common.{◌≡◌, ◌∙◌, sym, ap, map, List, ◌++◌, ◌∷◌, [], Some, None, ℕ, Option, option_map}
+use Rattle.std.proofs.Common.{◌≡◌, ◌∙◌, sym, ap, map, ◌++◌, ◌∷◌, [], option_map}
 use Rattle.std.specs.Option.{option_copied}
 use Rattle.std.specs.Map.Iter.{deref_pair}
 use Rattle.std.proofs.lemmas.List.{map-append}
-use Rattle.std.proofs.lemmas.Map.Iter.{rest_more, rest_all, rest_so_far}
-use Rattle.sdb_pairs.specs.declared.item.Item.{Item}
+use Rattle.std.proofs.lemmas.Map.Iter.{rest_more, rest_so_far}
 use Rattle.sdb_pairs.specs.Changes.{item_with}
 use Rattle.sdb_domain.specs.Held.{Kept, items_kept}
 use Rattle.sdb_domain.specs.Keyed.{seen}

@@ -1,4 +1,4 @@
-use Rattle.std.proofs.Common.{◌≡◌, ◌∙◌, ap}
+use Rattle.std.proofs.Common.{◌∙◌, ap}
 use Rattle.sdb_domain.specs.Held.{Kept, items_kept}
 use Rattle.sdb_domain.proofs.WholeLemmas.{whole_swept, items_swept}
 use Rattle.sdb_domain.proofs.held.Held.sweep.Goals as goal

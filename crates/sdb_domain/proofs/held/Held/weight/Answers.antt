@@ -1,4 +1,4 @@
-use Rattle.std.proofs.Common.{◌≡◌, ◌∙◌, ap, length}
+use Rattle.std.proofs.Common.{◌∙◌, ap}
 use Rattle.sdb_domain.specs.Held.{Kept, items_kept}
 use Rattle.sdb_domain.specs.Weights.{domain_weight}
 use Rattle.sdb_domain.proofs.ItemSums.{weight_is}

@@ -1,4 +1,4 @@
-use Rattle.std.proofs.Common.{◌≡◌, ◌∙◌, sym, ap, filter}
+use Rattle.std.proofs.Common.{◌∙◌, ap, filter}
 use Rattle.std.specs.Option.{option_copied}
 use Rattle.std.specs.Bound.{bound_map}
 use Rattle.std.specs.BTreeMap.Range.{range_contains}
