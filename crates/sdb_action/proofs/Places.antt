@@ -1,5 +1,5 @@
 -- The places of entries: in rising order, and each one that has a part.
-use Rattle.std.proofs.Common.{◌≡◌, ℕ, Bool, true, false, cond, ◌||◌, List, [], ◌∷◌, ◌++◌, map, fold, Option, Some, None, Ordering, Less, Equal, Greater, refl, sym, ap, ◌∙◌, subst, is_eq, is_some, option_map, eqb, true≢false}
+use Rattle.std.proofs.Common.{◌≡◌, ℕ, Bool, true, false, cond, ◌||◌, List, [], ◌∷◌, map, Option, Some, None, Ordering, Less, Equal, Greater, refl, sym, ap, ◌∙◌, subst, is_eq, is_some, option_map, eqb, true≢false}
 use Rattle.std.specs.Cmp.{IsTotalOrder, unsigned_tied, nat_eq_equiv}
 use Rattle.std.specs.Ordering.{ordering_reverse, match_ordering, eq_by_cmp, nat_cmp}
 use Rattle.std.specs.BTreeMap as tree
@@ -11,10 +11,10 @@ use Rattle.std.specs.Map.{lookup, keys_of, values_of}
 use Rattle.std.proofs.lemmas.Cmp.{nat_cmp_total, tied_itself, alike_right}
 use Rattle.std.proofs.lemmas.Map.Lookups.{exact_unsigned}
 use Rattle.std.proofs.lemmas.Option.{none-some, same_Some}
-use Rattle.sdb_base.specs.Pairs.{NamedValues, value_of}
+use Rattle.sdb_base.specs.Pairs.{NamedValues}
 use Rattle.sdb_action.specs.declared.numbers.EntryKind.{EntryKind}
 use Rattle.sdb_action.specs.Numbers.{Part, part_of}
-use Rattle.sdb_action.specs.Entries.{rising, place_in, places, value_at, part_in, with_new, first_values, parts_at, entries, there, entry_at}
+use Rattle.sdb_action.specs.Entries.{rising, place_in, places, value_at, part_in, parts_at, entries, there, entry_at}
 use Rattle.sdb_action.proofs.Beginnings.{by_bool}
 
 by_ordering : {P : Type 0} (r : Ordering) → (r ≡ Less → P) → (r ≡ Equal → P) → (r ≡ Greater → P) → P
@@ -82,23 +82,9 @@ either : (b : Bool) (part : List ℕ × List ℕ) (parts : NamedValues) → (b |
 either true part parts = refl
 either false part parts = refl
 
--- what was added once stays
-kept : (part : List ℕ × List ℕ) (parts pairs : NamedValues) → is_some (there (fold with_new (part ∷ parts) pairs)) ≡ true
-kept part parts [] = refl
-kept part parts (pair ∷ pairs) = by_new (is_some (value_of (part ∷ parts) pair.0)) (kept part parts pairs) (kept part (parts ++ pair ∷ []) pairs)
-  where
-    by_new : (b : Bool) → is_some (there (fold with_new (part ∷ parts) pairs)) ≡ true → is_some (there (fold with_new (part ∷ parts ++ pair ∷ []) pairs)) ≡ true
-        → is_some (there (fold with_new (cond b (part ∷ parts) (part ∷ parts ++ pair ∷ [])) pairs)) ≡ true
-    by_new true old more = old
-    by_new false old more = more
-
-there-first_values : (pairs : NamedValues) → is_some (there (first_values pairs)) ≡ is_some (there pairs)
-there-first_values [] = refl
-there-first_values (pair ∷ pairs) = kept pair [] pairs
-
 -- a place is among those that are there just where its entry has a part
 place_there : (kind : EntryKind) (params : NamedValues) (q : ℕ) → has q (places kind params) ≡ is_some (there (parts_at kind params q))
-place_there kind params q = named_there params ∙ sym (there-first_values (filter_map (part_in kind q) params))
+place_there kind params q = named_there params
   where
     by_part : (param : List ℕ × List ℕ) (params : NamedValues) (part : Option Part) → part_of kind param.0 ≡ part → has q (places kind params) ≡ is_some (there (filter_map (part_in kind q) params))
         → has q (places kind (param ∷ params)) ≡ is_some (there (filter_map (part_in kind q) (param ∷ params)))

@@ -1,9 +1,9 @@
 -- The entries of a numbered list: those that some parameter is a part of, in number order.
-use Rattle.std.specs.Prelude.{ℕ, List, [], ◌∷◌, ◌++◌, map, fold, is_some, Option, Some, None, ◌==◌, option_map, if◌then◌else◌}
+use Rattle.std.specs.Prelude.{ℕ, List, [], ◌∷◌, map, Option, Some, None, ◌==◌, option_map, if◌then◌else◌}
 use Rattle.std.specs.List.{filter_map}
 use Rattle.std.specs.Ordering.{nat_cmp}
 use Rattle.std.specs.BTreeSet.{insert_key}
-use Rattle.sdb_base.specs.Pairs.{NamedValues, value_of}
+use Rattle.sdb_base.specs.Pairs.{NamedValues}
 use Rattle.sdb_action.specs.declared.numbers.EntryKind.{EntryKind}
 use Rattle.sdb_action.specs.Numbers.{Part, part_of}
 
@@ -28,17 +28,9 @@ value_at place (Some part) value = if part.0 == place then Some (part.1, value) 
 abbrev pub part_in : EntryKind → ℕ → (List ℕ × List ℕ) → Option (List ℕ × List ℕ)
 part_in kind place param = value_at place (part_of kind param.0) param.1
 
--- a name with its value after those that are there, where it isn't there yet
-abbrev pub with_new : NamedValues → (List ℕ × List ℕ) → NamedValues
-with_new parts part = if is_some (value_of parts part.0) then parts else parts ++ part ∷ []
-
--- each name once, with the first value that it has
-abbrev pub first_values : NamedValues → NamedValues
-first_values pairs = fold with_new [] pairs
-
 -- the parts of the entry at a place, with their values
 abbrev pub parts_at : EntryKind → NamedValues → ℕ → NamedValues
-parts_at kind params place = first_values (filter_map (part_in kind place) params)
+parts_at kind params place = filter_map (part_in kind place) params
 
 -- the parts of each entry
 unfoldable pub entries : EntryKind → NamedValues → List NamedValues

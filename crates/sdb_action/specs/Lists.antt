@@ -49,13 +49,18 @@ abbrev pub asked_name : NamedValues → Result (List ℕ) Refusal
 asked_name parts = and_then (fields_by parts name_rows) (λ fields. text_at fields 0)
 
 -- the pairs of a put, of which there is at least one
+abbrev pub pairs_of : List NamedValues → Result (List PutPair) Refusal
+pairs_of list = and_then (at_most_256 list) (λ list. and_then (some_entry list) (λ some. each put_pair some))
+
 abbrev pub put_pairs : NamedValues → Result (List PutPair) Refusal
-put_pairs params =
-    and_then (at_most_256 (entries Attribute params)) (λ list. and_then (some_entry list) (λ some. each put_pair some))
+put_pairs params = pairs_of (entries Attribute params)
 
 -- the parts of a deletion
+abbrev pub parts_of : List NamedValues → Result (List DropPart) Refusal
+parts_of list = and_then (at_most_256 list) (λ list. each drop_part list)
+
 abbrev pub drop_parts : NamedValues → Result (List DropPart) Refusal
-drop_parts params = and_then (at_most_256 (entries Attribute params)) (λ list. each drop_part list)
+drop_parts params = parts_of (entries Attribute params)
 
 -- the attribute names that are asked for
 abbrev pub asked_names : NamedValues → Result (List (List ℕ)) Refusal

@@ -1,8 +1,8 @@
 ghost use Rattle.sdb_tables.specs.Answers.{Answers};
 ghost use Rattle.sdb_action.specs.Steps as steps;
 
-use crate::entries::Entries;
-use sdb_base::{List, Params};
+use crate::entries::{Entries, Parts};
+use sdb_base::List;
 use sdb_tables::Refusal;
 use std::alloc::Global;
 
@@ -15,7 +15,7 @@ pub(crate) trait FromParts: Sized {
     ghost reads: { List (List ℕ × List ℕ) → Result Self Refusal };
 
     /// Reads the parts of one entry.
-    fn from_parts(alloc: Global, parts: &Params) -> Result<Self, Refusal>
+    fn from_parts(alloc: Global, parts: &Parts) -> Result<Self, Refusal>
         ensures { Answers (reads parts.now) result };
 }
 

@@ -1,17 +1,24 @@
-ghost use Rattle.std.specs.Prelude.{◌≡◌, ℕ, [], ◌==◌, IfOk, OnOk, Some, unwrap_or, if◌then◌else◌};
+ghost use Rattle.std.specs.Prelude.{◌≡◌, ℕ, [], ◌∷◌, ◌++◌, ◌==◌, IfOk, OnOk, Some, unwrap_or, if◌then◌else◌};
+ghost use Rattle.std.specs.List.{find};
+ghost use Rattle.std.specs.Option.{option_copied};
 ghost use Rattle.std.specs.Ordering.{nat_cmp};
-ghost use Rattle.std.specs.BTreeMap.{get};
-ghost use Rattle.sdb_action.specs.Entries.{entries, entry_at, with_new};
+ghost use Rattle.std.specs.Str.{bytes_eq};
+ghost use Rattle.std.specs.BTreeMap.{IsOrdered, get, values};
+ghost use Rattle.sdb_base.specs.Pairs.{value_of};
+ghost use Rattle.sdb_action.specs.Entries.{entries, entry_at};
 
 use crate::numbers::{EntryKind, part_of};
 use sdb_base::{List, OutOfMemory, Params, Text};
 use std::alloc::Global;
 use std::collections::BTreeMap;
 
-/// The entries of a numbered list, in number order: the parts of each, by their own names.
-pub(crate) type Entries = List<Params>;
+/// The parts of one entry by their own names, with their values, in the order in which they came.
+pub(crate) type Parts = List<(Text, Text)>;
 
-/// The entries of such a list that some parameter is a part of.
+/// The entries of a numbered list, in number order.
+pub(crate) type Entries = List<Parts>;
+
+/// The entries that some parameter is a part of.
 pub(crate) fn entries(
     alloc: Global,
     kind: EntryKind,
@@ -19,8 +26,26 @@ pub(crate) fn entries(
 ) -> Result<Entries, OutOfMemory>
     ensures { IfOk result (λ list. list ≡ entries kind params.now) }
 {
+    in_order(alloc, entries_by_place(alloc, kind, params)?)
+}
+
+/// The entries that some part of an entry is a part of.
+pub(crate) fn entries_within(
+    alloc: Global,
+    kind: EntryKind,
+    parts: &Parts,
+) -> Result<Entries, OutOfMemory>
+    ensures { IfOk result (λ list. list ≡ entries kind parts.now) }
+{
+    in_order(alloc, entries_by_place_within(alloc, kind, parts)?)
+}
+
+fn in_order(alloc: Global, map: BTreeMap<u16, Parts>) -> Result<Entries, OutOfMemory>
+    ensures values { IfOk result (λ list. list ≡ values map) }
+    ensures ordered { IsOrdered nat_cmp map }
+{
     let mut list = List::new(alloc);
-    for (_, parts) in entries_by_place(alloc, kind, params)? {
+    for (_, parts) in map {
         list.push(parts)?;
     }
     Ok(list)
@@ -30,7 +55,7 @@ fn entries_by_place(
     alloc: Global,
     kind: EntryKind,
     params: &Params,
-) -> Result<BTreeMap<u16, Params>, OutOfMemory>
+) -> Result<BTreeMap<u16, Parts>, OutOfMemory>
     ensures { IfOk result (λ map. (place : ℕ) → get nat_cmp map place ≡ entry_at kind params.now place) }
 {
     let mut map = BTreeMap::new(alloc);
@@ -43,31 +68,53 @@ fn entries_by_place(
     Ok(map)
 }
 
+fn entries_by_place_within(
+    alloc: Global,
+    kind: EntryKind,
+    parts: &Parts,
+) -> Result<BTreeMap<u16, Parts>, OutOfMemory>
+    ensures { IfOk result (λ map. (place : ℕ) → get nat_cmp map place ≡ entry_at kind parts.now place) }
+{
+    let mut map = BTreeMap::new(alloc);
+    for i in 0..parts.len() {
+        let param = parts.at(i);
+        if let Some((place, part)) = part_of(kind, param.0.as_str()) {
+            add_part(alloc, &mut map, place, part, &param.1)?;
+        }
+    }
+    Ok(map)
+}
+
 fn add_part(
     alloc: Global,
-    map: &mut BTreeMap<u16, Params>,
+    map: &mut BTreeMap<u16, Parts>,
     place: u16,
     part: &str,
     value: &Text,
 ) -> Result<(), OutOfMemory>
     ensures { OnOk result ((q : ℕ) → get nat_cmp map.new q
-        ≡ (if place == q then Some (with_new (unwrap_or (get nat_cmp map.old q) []) (part.now, value.now)) else get nat_cmp map.old q)) }
+        ≡ (if place == q then Some (unwrap_or (get nat_cmp map.old q) [] ++ (part.now, value.now) ∷ []) else get nat_cmp map.old q)) }
 {
+    let part = (Text::from_str(alloc, part)?, value.copy(alloc)?);
     if let Some(parts) = map.get_mut(&place) {
-        return add_new(alloc, parts, part, value);
+        return parts.push(part);
     }
-    let mut parts = Params::new(alloc);
-    add_new(alloc, &mut parts, part, value)?;
+    let mut parts = List::new(alloc);
+    parts.push(part)?;
     map.insert(place, parts)?;
     Ok(())
 }
 
-/// Adds a part, where the entry hasn't got it yet.
-fn add_new(alloc: Global, parts: &mut Params, part: &str, value: &Text) -> Result<(), OutOfMemory>
-    ensures { OnOk result (parts.new ≡ with_new parts.old (part.now, value.now)) }
+/// The value of the part of that name.
+pub(crate) fn value_named<'p>(parts: &'p Parts, name: &str) -> Option<&'p Text>
+    ensures { option_copied result ≡ value_of parts.now name.now }
 {
-    if parts.get(part).is_some() {
-        return Ok(());
-    }
-    parts.add(Text::from_str(alloc, part)?, value.copy(alloc)?)
+    let part = part_named(parts, name)?;
+    Some(&part.1)
+}
+
+fn part_named<'p>(parts: &'p Parts, name: &str) -> Option<&'p (Text, Text)>
+    ensures { option_copied result ≡ find (λ part. bytes_eq name.now part.0) parts.now }
+{
+    parts.as_slice().iter().find(|part| name == part.0.as_str())
 }

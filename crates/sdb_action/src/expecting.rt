@@ -2,7 +2,7 @@ ghost use Rattle.std.specs.Prelude.{◌≡◌};
 ghost use Rattle.sdb_tables.specs.Answers.{Answers};
 ghost use Rattle.sdb_action.specs.Lists as lists;
 
-use crate::entries::{Entries, entries};
+use crate::entries::{Entries, Parts, entries, value_named};
 use crate::fields::{expect_fields, field_at, flag_is, text_at};
 use crate::numbers::EntryKind;
 use crate::request::Expect;
@@ -21,7 +21,7 @@ fn expected_value(name: Text, value: Option<Text>, absent: bool) -> Result<Expec
     }
 }
 
-fn expect_by_fields(alloc: Global, parts: &Params) -> Result<Expect, Refusal>
+fn expect_by_fields(alloc: Global, parts: &Parts) -> Result<Expect, Refusal>
     ensures { Answers (lists.expect_by_fields parts.now) result }
 {
     let fields = expect_fields(alloc, parts)?;
@@ -30,10 +30,10 @@ fn expect_by_fields(alloc: Global, parts: &Params) -> Result<Expect, Refusal>
     expected_value(name, value, flag_is("false", &fields, 2))
 }
 
-fn expect(alloc: Global, parts: &Params) -> Result<Expect, Refusal>
+fn expect(alloc: Global, parts: &Parts) -> Result<Expect, Refusal>
     ensures { Answers (lists.expect parts.now) result }
 {
-    if parts.get("Name").is_none() {
+    if value_named(parts, "Name").is_none() {
         return Err(Refusal::IncompleteExpectedExpression);
     }
     expect_by_fields(alloc, parts)

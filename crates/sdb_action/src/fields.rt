@@ -1,9 +1,12 @@
-ghost use Rattle.std.specs.Prelude.{◌≡◌, ◌<◌, length, map, IfOk};
+ghost use Rattle.std.specs.Prelude.{◌≡◌, ◌<◌, ℕ, List, length, map, IfOk, OnOk, if◌then◌else◌};
+ghost use Rattle.std.specs.Option.{option_or};
 ghost use Rattle.std.specs.Char.{to_ascii_lowercase};
 ghost use Rattle.std.specs.Str.{bytes_eq};
+ghost use Rattle.sdb_base.specs.Pairs.{value_of};
 ghost use Rattle.sdb_tables.specs.Answers.{Answers};
 ghost use Rattle.sdb_action.specs.Tables as tables;
 
+use crate::entries::{Parts, value_named};
 use sdb_base::{OutOfMemory, Params, Text};
 use sdb_tables::{FieldKind, Fields, ParamRow, Refusal, Rules, read_rules};
 use std::alloc::Global;
@@ -180,6 +183,51 @@ fn fields_by<const N: usize>(
     read_rules::<N>(alloc, rows, params)
 }
 
+/// Puts the part of that name into the parameters, where there is one and they haven't got it yet.
+fn add_named(
+    alloc: Global,
+    params: &mut Params,
+    parts: &Parts,
+    name: &str,
+) -> Result<(), OutOfMemory>
+    ensures { OnOk result ((q : List ℕ) → value_of params.new q
+        ≡ (if bytes_eq q name.now then option_or (value_of params.old q) (value_of parts.now q) else value_of params.old q)) }
+{
+    if params.get(name).is_some() {
+        return Ok(());
+    }
+    match value_named(parts, name) {
+        Some(value) => params.add(Text::from_str(alloc, name)?, value.copy(alloc)?),
+        None => Ok(()),
+    }
+}
+
+/// The parts that the rows name, as parameters.
+fn params_of(alloc: Global, rows: &[ParamRow], parts: &Parts) -> Result<Params, OutOfMemory>
+    ensures { IfOk result (λ params. tables.fields_by params (map tables.seen rows.now)
+        ≡ tables.fields_by parts.now (map tables.seen rows.now)) }
+{
+    let mut params = Params::new(alloc);
+    for row in rows {
+        add_named(alloc, &mut params, parts, row.name)?;
+    }
+    Ok(params)
+}
+
+/// The same of an entry's parts, which are put into parameters of their own.
+fn part_fields<const N: usize>(
+    alloc: Global,
+    rows: &[ParamRow],
+    parts: &Parts,
+) -> Result<Fields, Refusal>
+    requires { length rows.now ≡ N }
+    ensures answer { Answers (tables.fields_by parts.now (map tables.seen rows.now)) result }
+    ensures count { IfOk result (λ fields. length fields ≡ N) }
+{
+    let params = params_of(alloc, rows, parts)?;
+    fields_by::<N>(alloc, rows, &params)
+}
+
 #[tactic(auto, unfolding(crate::specs::Tables::domain_rows))]
 pub(crate) fn domain_fields(alloc: Global, params: &Params) -> Result<Fields, Refusal>
     ensures answer { Answers (tables.fields_by params.now tables.domain_rows) result }
@@ -221,43 +269,43 @@ pub(crate) fn select_fields(alloc: Global, params: &Params) -> Result<Fields, Re
 }
 
 #[tactic(auto, unfolding(crate::specs::Tables::put_rows))]
-pub(crate) fn put_fields(alloc: Global, params: &Params) -> Result<Fields, Refusal>
-    ensures answer { Answers (tables.fields_by params.now tables.put_rows) result }
+pub(crate) fn put_fields(alloc: Global, parts: &Parts) -> Result<Fields, Refusal>
+    ensures answer { Answers (tables.fields_by parts.now tables.put_rows) result }
     ensures count { IfOk result (λ fields. length fields ≡ 3) }
 {
-    fields_by::<3>(alloc, &PUT.rows, params)
+    part_fields::<3>(alloc, &PUT.rows, parts)
 }
 
 #[tactic(auto, unfolding(crate::specs::Tables::drop_rows))]
-pub(crate) fn drop_fields(alloc: Global, params: &Params) -> Result<Fields, Refusal>
-    ensures answer { Answers (tables.fields_by params.now tables.drop_rows) result }
+pub(crate) fn drop_fields(alloc: Global, parts: &Parts) -> Result<Fields, Refusal>
+    ensures answer { Answers (tables.fields_by parts.now tables.drop_rows) result }
     ensures count { IfOk result (λ fields. length fields ≡ 2) }
 {
-    fields_by::<2>(alloc, &DROP.rows, params)
+    part_fields::<2>(alloc, &DROP.rows, parts)
 }
 
 #[tactic(auto, unfolding(crate::specs::Tables::name_rows))]
-pub(crate) fn name_fields(alloc: Global, params: &Params) -> Result<Fields, Refusal>
-    ensures answer { Answers (tables.fields_by params.now tables.name_rows) result }
+pub(crate) fn name_fields(alloc: Global, parts: &Parts) -> Result<Fields, Refusal>
+    ensures answer { Answers (tables.fields_by parts.now tables.name_rows) result }
     ensures count { IfOk result (λ fields. length fields ≡ 1) }
 {
-    fields_by::<1>(alloc, &NAME.rows, params)
+    part_fields::<1>(alloc, &NAME.rows, parts)
 }
 
 #[tactic(auto, unfolding(crate::specs::Tables::item_name_rows))]
-pub(crate) fn item_name_fields(alloc: Global, params: &Params) -> Result<Fields, Refusal>
-    ensures answer { Answers (tables.fields_by params.now tables.item_name_rows) result }
+pub(crate) fn item_name_fields(alloc: Global, parts: &Parts) -> Result<Fields, Refusal>
+    ensures answer { Answers (tables.fields_by parts.now tables.item_name_rows) result }
     ensures count { IfOk result (λ fields. length fields ≡ 1) }
 {
-    fields_by::<1>(alloc, &ITEM_NAME.rows, params)
+    part_fields::<1>(alloc, &ITEM_NAME.rows, parts)
 }
 
 #[tactic(auto, unfolding(crate::specs::Tables::expect_rows))]
-pub(crate) fn expect_fields(alloc: Global, params: &Params) -> Result<Fields, Refusal>
-    ensures answer { Answers (tables.fields_by params.now tables.expect_rows) result }
+pub(crate) fn expect_fields(alloc: Global, parts: &Parts) -> Result<Fields, Refusal>
+    ensures answer { Answers (tables.fields_by parts.now tables.expect_rows) result }
     ensures count { IfOk result (λ fields. length fields ≡ 3) }
 {
-    fields_by::<3>(alloc, &EXPECT.rows, params)
+    part_fields::<3>(alloc, &EXPECT.rows, parts)
 }
 
 /// The text of a needed field.

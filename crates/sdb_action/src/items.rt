@@ -5,10 +5,10 @@ ghost use Rattle.sdb_tables.specs.Answers.{Answers};
 ghost use Rattle.sdb_action.specs.Lists as lists;
 
 use crate::each::{FromParts, each};
-use crate::entries::{Entries, entries};
+use crate::entries::{Entries, Parts, entries};
 use crate::fields::{item_name_fields, text_at};
 use crate::numbers::EntryKind;
-use crate::pairs::{drop_parts, put_pairs, some_entry};
+use crate::pairs::{drop_parts_within, put_pairs_within, some_entry};
 use crate::request::{DropItem, DropItems, PutItem, PutItems};
 use sdb_base::{List, Params, Text};
 use sdb_tables::Refusal;
@@ -17,7 +17,7 @@ use std::alloc::Global;
 /// The greatest number of items in one batch.
 const MOST_ITEMS: usize = 25;
 
-fn item_name(alloc: Global, parts: &Params) -> Result<Text, Refusal>
+fn item_name(alloc: Global, parts: &Parts) -> Result<Text, Refusal>
     ensures { Answers (lists.item_name parts.now) result }
 {
     let fields = item_name_fields(alloc, parts)?;
@@ -27,9 +27,9 @@ fn item_name(alloc: Global, parts: &Params) -> Result<Text, Refusal>
 impl FromParts for PutItem {
     ghost reads = { lists.put_item };
 
-    fn from_parts(alloc: Global, parts: &Params) -> Result<PutItem, Refusal> {
+    fn from_parts(alloc: Global, parts: &Parts) -> Result<PutItem, Refusal> {
         let name = item_name(alloc, parts)?;
-        let pairs = put_pairs(alloc, parts)?;
+        let pairs = put_pairs_within(alloc, parts)?;
         Ok(PutItem { name, pairs })
     }
 }
@@ -37,9 +37,9 @@ impl FromParts for PutItem {
 impl FromParts for DropItem {
     ghost reads = { lists.drop_item };
 
-    fn from_parts(alloc: Global, parts: &Params) -> Result<DropItem, Refusal> {
+    fn from_parts(alloc: Global, parts: &Parts) -> Result<DropItem, Refusal> {
         let name = item_name(alloc, parts)?;
-        let parts = drop_parts(alloc, parts)?;
+        let parts = drop_parts_within(alloc, parts)?;
         Ok(DropItem { name, parts })
     }
 }

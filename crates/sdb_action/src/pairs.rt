@@ -3,7 +3,7 @@ ghost use Rattle.sdb_tables.specs.Answers.{Answers};
 ghost use Rattle.sdb_action.specs.Lists as lists;
 
 use crate::each::{FromParts, each};
-use crate::entries::{Entries, entries};
+use crate::entries::{Entries, Parts, entries, entries_within};
 use crate::fields::{drop_fields, field_at, flag_is, name_fields, put_fields, text_at};
 use crate::numbers::EntryKind;
 use crate::request::{DropPart, DropParts, PutPair, PutPairs};
@@ -17,7 +17,7 @@ const MOST_ATTRIBUTES: usize = 256;
 impl FromParts for PutPair {
     ghost reads = { lists.put_pair };
 
-    fn from_parts(alloc: Global, parts: &Params) -> Result<PutPair, Refusal> {
+    fn from_parts(alloc: Global, parts: &Parts) -> Result<PutPair, Refusal> {
         let fields = put_fields(alloc, parts)?;
         let name = text_at(alloc, &fields, 0)?;
         let value = text_at(alloc, &fields, 1)?;
@@ -33,7 +33,7 @@ impl FromParts for PutPair {
 impl FromParts for DropPart {
     ghost reads = { lists.drop_part };
 
-    fn from_parts(alloc: Global, parts: &Params) -> Result<DropPart, Refusal> {
+    fn from_parts(alloc: Global, parts: &Parts) -> Result<DropPart, Refusal> {
         let fields = drop_fields(alloc, parts)?;
         let name = text_at(alloc, &fields, 0)?;
         let value = field_at(alloc, &fields, 1)?;
@@ -44,7 +44,7 @@ impl FromParts for DropPart {
 impl FromParts for Text {
     ghost reads = { lists.asked_name };
 
-    fn from_parts(alloc: Global, parts: &Params) -> Result<Text, Refusal> {
+    fn from_parts(alloc: Global, parts: &Parts) -> Result<Text, Refusal> {
         let fields = name_fields(alloc, parts)?;
         text_at(alloc, &fields, 0)
     }
@@ -70,20 +70,47 @@ pub(crate) fn some_entry(list: Entries) -> Result<Entries, Refusal>
 }
 
 /// The pairs of a put, of which there is at least one.
-pub(crate) fn put_pairs(alloc: Global, params: &Params) -> Result<PutPairs, Refusal>
-    ensures { Answers (lists.put_pairs params.now) result }
+fn pairs_of(alloc: Global, list: Entries) -> Result<PutPairs, Refusal>
+    ensures { Answers (lists.pairs_of list) result }
 {
-    let list = at_most_256(entries(alloc, EntryKind::Attribute, params)?)?;
-    let list = some_entry(list)?;
+    let list = some_entry(at_most_256(list)?)?;
     each(alloc, &list)
 }
 
 /// The parts of a deletion.
+fn parts_of(alloc: Global, list: Entries) -> Result<DropParts, Refusal>
+    ensures { Answers (lists.parts_of list) result }
+{
+    let list = at_most_256(list)?;
+    each(alloc, &list)
+}
+
+/// The pairs of a put of one item.
+pub(crate) fn put_pairs(alloc: Global, params: &Params) -> Result<PutPairs, Refusal>
+    ensures { Answers (lists.put_pairs params.now) result }
+{
+    pairs_of(alloc, entries(alloc, EntryKind::Attribute, params)?)
+}
+
+/// The parts of a deletion from one item.
 pub(crate) fn drop_parts(alloc: Global, params: &Params) -> Result<DropParts, Refusal>
     ensures { Answers (lists.drop_parts params.now) result }
 {
-    let list = at_most_256(entries(alloc, EntryKind::Attribute, params)?)?;
-    each(alloc, &list)
+    parts_of(alloc, entries(alloc, EntryKind::Attribute, params)?)
+}
+
+/// The pairs that a batch puts into one of its items.
+pub(crate) fn put_pairs_within(alloc: Global, parts: &Parts) -> Result<PutPairs, Refusal>
+    ensures { Answers (lists.put_pairs parts.now) result }
+{
+    pairs_of(alloc, entries_within(alloc, EntryKind::Attribute, parts)?)
+}
+
+/// The parts that a batch deletes from one of its items.
+pub(crate) fn drop_parts_within(alloc: Global, parts: &Parts) -> Result<DropParts, Refusal>
+    ensures { Answers (lists.drop_parts parts.now) result }
+{
+    parts_of(alloc, entries_within(alloc, EntryKind::Attribute, parts)?)
 }
 
 /// The attribute names that are asked for.
