@@ -1,0 +1,370 @@
+#!/usr/bin/env python3
+"""Compares `sdb bare` with a small model of it, over random lines.
+
+The model is written from docs/PROFILE.md and docs/FORMATS.md and shares nothing with the program.
+Usage: tools/compare/bare.py [SEED [LINES]]
+It prints how often each code came, and ends with status 1 at the first answer that differs.
+"""
+
+import base64
+import collections
+import pathlib
+import random
+import re
+import subprocess
+import sys
+
+PROGRAM = pathlib.Path(__file__).resolve().parents[1] / "sdb"
+MOST_LINE = 1_048_576
+ACTIONS = (
+    "CreateDomain DeleteDomain ListDomains DomainMetadata PutAttributes BatchPutAttributes "
+    "GetAttributes DeleteAttributes BatchDeleteAttributes Select"
+).split()
+EXECUTED = "CreateDomain DeleteDomain PutAttributes DeleteAttributes GetAttributes".split()
+MESSAGES = {
+    "RequestTooLong": "The request body is too long.",
+    "InvalidParameterValue": "The value of a parameter is invalid.",
+    "InvalidParameterCombination": "The parameters do not go together.",
+    "MissingParameter": "A required parameter is missing.",
+    "InvalidAction": "The action is not valid.",
+    "NoSuchDomain": "The specified domain does not exist.",
+    "NumberSubmittedAttributesExceeded": "The request has too many attributes.",
+    "ConditionalCheckFailed": "The conditional check failed.",
+    "AttributeDoesNotExist": "The expected attribute does not exist.",
+    "MultiValuedAttribute": "The expected attribute has several values.",
+    "IncompleteExpectedExpression": "The expectation is incomplete.",
+    "ExistsAndExpectedValue": "Exists=false has no value.",
+    "MultipleExpectedNames": "Only one expectation is allowed.",
+}
+NUMBER = "(0|[1-9][0-9]{0,3})"
+BARE = -1  # the place of an entry without a number
+
+
+class Refused(Exception):
+    pass
+
+
+def need(params, name):
+    if name not in params:
+        raise Refused("MissingParameter")
+    return params[name]
+
+
+def check(holds):
+    if not holds:
+        raise Refused("InvalidParameterValue")
+
+
+def is_name(text):
+    return 1 <= len(text.encode()) <= 1024
+
+
+def is_value(text):
+    return len(text.encode()) <= 1024
+
+
+def is_flag(text):
+    return text.isascii() and text.lower() in ("true", "false")
+
+
+def is_on(entry, part, word):
+    return entry.get(part, "").lower() == word
+
+
+def decoded(raw):
+    spaced = raw.replace(b"+", b" ")
+    return re.sub(rb"%([0-9A-Fa-f]{2})", lambda m: bytes([int(m[1], 16)]), spaced)
+
+
+def parameters(form):
+    pieces = [piece.partition(b"=") for piece in form.split(b"&") if piece]
+    try:
+        pairs = [(decoded(name).decode(), decoded(value).decode()) for name, _, value in pieces]
+    except UnicodeDecodeError:
+        raise Refused("InvalidParameterValue")
+    if len(dict(pairs)) < len(pairs):
+        raise Refused("InvalidParameterCombination")
+    return dict(pairs)
+
+
+def entries(params, word, parts):
+    """The entries of a list by their numbers, each with its parts."""
+    found = {}
+    for name, value in params.items():
+        match = re.fullmatch(rf"{word}\.{NUMBER}\.({'|'.join(parts)})", name)
+        if match:
+            found.setdefault(int(match[1]), {})[match[2]] = value
+    return found
+
+
+def in_order(found):
+    if len(found) > 256:
+        raise Refused("NumberSubmittedAttributesExceeded")
+    return [found[number] for number in sorted(found)]
+
+
+def attributes(params):
+    return in_order(entries(params, "Attribute", ["Name", "Value", "Replace"]))
+
+
+def named(entry):
+    name = need(entry, "Name")
+    check(is_name(name))
+    return name
+
+
+def put_pairs(params):
+    pairs = []
+    for entry in attributes(params) or [{}]:
+        name, value = named(entry), need(entry, "Value")
+        check(is_value(value))
+        check(is_flag(entry.get("Replace", "false")))
+        pairs.append((name, value, is_on(entry, "Replace", "true")))
+    return pairs
+
+
+def drop_parts(params):
+    parts = []
+    for entry in attributes(params):
+        name, value = named(entry), entry.get("Value")
+        check(value is None or is_value(value))
+        parts.append((name, value))
+    return parts
+
+
+def asked_names(params):
+    found = {BARE: params["AttributeName"]} if "AttributeName" in params else {}
+    for name, value in params.items():
+        match = re.fullmatch(rf"AttributeName\.{NUMBER}", name)
+        if match:
+            found[int(match[1])] = value
+    names = in_order(found)
+    for name in names:
+        check(is_name(name))
+    return names
+
+
+def expectation(params):
+    parts = ["Name", "Value", "Exists"]
+    found = entries(params, "Expected", parts)
+    bare = {part: params["Expected." + part] for part in parts if "Expected." + part in params}
+    if bare:
+        found[BARE] = bare
+    if len(found) > 1:
+        raise Refused("MultipleExpectedNames")
+    for entry in found.values():
+        if "Name" not in entry:
+            raise Refused("IncompleteExpectedExpression")
+        value = entry.get("Value")
+        check(is_name(entry["Name"]))
+        check(value is None or is_value(value))
+        check(is_flag(entry.get("Exists", "true")))
+        absent = is_on(entry, "Exists", "false")
+        if absent and value is not None:
+            raise Refused("ExistsAndExpectedValue")
+        if not absent and value is None:
+            raise Refused("IncompleteExpectedExpression")
+        return entry["Name"], value
+    return None
+
+
+def judge(expected, pairs):
+    if expected is None:
+        return
+    name, wanted = expected
+    values = [value for other, value in pairs if other == name]
+    if wanted is None:
+        if values:
+            raise Refused("ConditionalCheckFailed")
+    elif not values:
+        raise Refused("AttributeDoesNotExist")
+    elif len(values) > 1:
+        raise Refused("MultiValuedAttribute")
+    elif values != [wanted]:
+        raise Refused("ConditionalCheckFailed")
+
+
+def items_of(domains, domain):
+    if domain not in domains:
+        raise Refused("NoSuchDomain")
+    return domains[domain]
+
+
+def write(items, item, pairs):
+    if pairs:
+        items[item] = pairs
+    else:
+        items.pop(item, None)
+
+
+def put(domains, domain, item, params):
+    puts = put_pairs(params)
+    expected = expectation(params)
+    items = items_of(domains, domain)
+    old = items.get(item, set())
+    judge(expected, old)
+    replaced = {name for name, _, replace in puts if replace}
+    kept = {pair for pair in old if pair[0] not in replaced}
+    write(items, item, kept | {(name, value) for name, value, _ in puts})
+    return "", 2000 + 200 * len(puts)
+
+
+def delete(domains, domain, item, params):
+    parts = drop_parts(params)
+    expected = expectation(params)
+    items = items_of(domains, domain)
+    old = items.get(item, set())
+    judge(expected, old)
+    whole = {name for name, value in parts if value is None}
+    left = {pair for pair in old if pair[0] not in whole and pair not in parts}
+    write(items, item, left if parts else set())
+    return "", 2000 + 200 * len(parts)
+
+
+def element(tag, text):
+    if re.search("[\x00-\x08\x0b\x0c\x0e-\x1f\ufffe\uffff]", text):
+        encoded = base64.b64encode(text.encode()).decode()
+        return f'<{tag} encoding="base64">{encoded}</{tag}>'
+    for plain, escape in (("&", "&amp;"), ("<", "&lt;"), (">", "&gt;"), ("\r", "&#13;")):
+        text = text.replace(plain, escape)
+    return f"<{tag}>{text}</{tag}>"
+
+
+def get(domains, domain, item, params):
+    check(is_flag(params.get("ConsistentRead", "true")))
+    names = asked_names(params)
+    pairs = sorted(
+        (pair for pair in items_of(domains, domain).get(item, ()) if not names or pair[0] in names),
+        key=lambda pair: (pair[0].encode(), pair[1].encode()),
+    )
+    shown = "".join(
+        f"<Attribute>{element('Name', name)}{element('Value', value)}</Attribute>"
+        for name, value in pairs
+    )
+    return f"<GetAttributesResult>{shown}</GetAttributesResult>", 1000 + 50 * len(pairs)
+
+
+def execute(domains, line):
+    """The action of a line, its result and its units."""
+    if len(line) > MOST_LINE:
+        raise Refused("RequestTooLong")
+    params = parameters(line)
+    action = need(params, "Action")
+    if action not in ACTIONS or action not in EXECUTED:
+        raise Refused("InvalidAction")
+    domain = need(params, "DomainName")
+    check(re.fullmatch("[a-zA-Z0-9_.-]{3,255}", domain))
+    if action == "CreateDomain":
+        domains.setdefault(domain, {})
+        return action, "", 50_000
+    if action == "DeleteDomain":
+        domains.pop(domain, None)
+        return action, "", 50_000
+    item = need(params, "ItemName")
+    check(is_name(item))
+    run = {"PutAttributes": put, "DeleteAttributes": delete, "GetAttributes": get}[action]
+    return (action, *run(domains, domain, item, params))
+
+
+def answer(domains, number, line):
+    request = f"00000000-0000-0000-0000-{number:012x}"
+    try:
+        action, result, units = execute(domains, line)
+    except Refused as refused:
+        code = str(refused)
+        return (
+            '<?xml version="1.0"?>\n'
+            f"<Response><Errors><Error><Code>{code}</Code><Message>{MESSAGES[code]}</Message>"
+            "<BoxUsage>0.0000001000</BoxUsage></Error></Errors>"
+            f"<RequestID>{request}</RequestID></Response>\n"
+        )
+    return (
+        '<?xml version="1.0"?>\n'
+        f'<{action}Response xmlns="http://sdb.amazonaws.com/doc/2009-04-15/">{result}'
+        f"<ResponseMetadata><RequestId>{request}</RequestId><BoxUsage>0.{units:010d}</BoxUsage>"
+        f"</ResponseMetadata></{action}Response>\n"
+    )
+
+
+class Lines:
+    """Random lines, most of them near the rules."""
+
+    def __init__(self, seed):
+        self.random = random.Random(seed)
+
+    def happens(self, share):
+        return self.random.random() < share
+
+    def one(self, *words):
+        return self.random.choice(words)
+
+    def value(self):
+        rare = ("", "%26", "a%01", "%C3%A9", "<>", "z" * 1024, "z" * 1025, "%0D", "%FF", "+")
+        return self.one(*rare) if self.happens(0.05) else self.one("x", "y", "z")
+
+    def attribute(self):
+        number = self.one("01", "10000", "") if self.happens(0.03) else self.one("0", "1", "2", "10", "9999")
+        if self.happens(0.97):
+            yield f"Attribute.{number}.Name", self.one("a", "b", "c")
+        if self.happens(0.9):
+            yield f"Attribute.{number}.Value", self.value()
+        if self.happens(0.3):
+            yield f"Attribute.{number}.Replace", self.one("true", "True", "false") if self.happens(0.98) else "maybe"
+
+    def expectation(self):
+        place = self.one(".1", ".7", "")
+        if self.happens(0.95):
+            yield f"Expected{place}.Name", self.one("a", "b", "c")
+        if self.happens(0.6):
+            yield f"Expected{place}.Value", self.one("x", "y", "z")
+        if self.happens(0.4):
+            yield f"Expected{place}.Exists", self.one("false", "true", "FALSE", "no")
+        if self.happens(0.05):
+            yield "Expected.3.Name", "a"
+
+    def parameters(self):
+        often = ["PutAttributes"] * 6 + ["GetAttributes"] * 4 + ["DeleteAttributes"] * 3
+        yield "Action", self.one(*often, "CreateDomain", "CreateDomain", "DeleteDomain", "Select", "Fly")
+        if self.happens(0.98):
+            yield "DomainName", self.one(*["books"] * 9, "abc") if self.happens(0.98) else "ab"
+        if self.happens(0.98):
+            yield "ItemName", self.one("i", "j") if self.happens(0.98) else ""
+        for _ in range(self.random.randrange(1, 4)):
+            yield from self.attribute()
+        if self.happens(0.3):
+            yield from self.expectation()
+        if self.happens(0.3):
+            yield self.one("AttributeName", "AttributeName.1", "AttributeName.20", "AttributeName.007"), self.one("a", "b")
+        if self.happens(0.1):
+            yield "ConsistentRead", self.one("true", "FALSE", "x")
+
+    def line(self):
+        params = list(self.parameters())
+        if self.happens(0.95):
+            params = list(dict(params).items())
+        self.random.shuffle(params)
+        return "&".join(f"{name}={value}" for name, value in params).encode()
+
+
+def main():
+    seed = int(sys.argv[1]) if len(sys.argv) > 1 else 1
+    count = int(sys.argv[2]) if len(sys.argv) > 2 else 20_000
+    source = Lines(seed)
+    lines = [b"Action=CreateDomain&DomainName=books", b"", b"x" * MOST_LINE, b"x" * (MOST_LINE + 1)]
+    lines += [source.line() for _ in range(count)]
+    run = subprocess.run([PROGRAM, "bare"], input=b"\n".join(lines) + b"\n", stdout=subprocess.PIPE)
+    got = [b"<?xml" + text for text in run.stdout.split(b"<?xml")[1:]]
+    if run.returncode != 0 or len(got) != len(lines):
+        sys.exit(f"status {run.returncode}, {len(got)} answers to {len(lines)} lines")
+    domains = {}
+    codes = collections.Counter()
+    for number, (line, text) in enumerate(zip(lines, got), start=1):
+        wanted = answer(domains, number, line)
+        if text != wanted.encode():
+            sys.exit(f"line {number}: {line[:400]!r}\nwanted {wanted[:600]!r}\ngot    {text[:600]!r}")
+        codes[re.search("<Code>(.*)</Code>", wanted)[1] if "<Code>" in wanted else "done"] += 1
+    print(f"{len(lines)} lines are answered alike:", ", ".join(f"{code} {n}" for code, n in codes.most_common()))
+
+
+if __name__ == "__main__":
+    main()
