@@ -1,3 +1,5 @@
+pub mod CauseLemmas
 pub mod DecimalLemmas
+pub mod NameLemmas
 pub mod PairsLemmas
 mod StepsWalks

@@ -3,5 +3,6 @@ pub mod Causes
 pub mod Decimal
 pub mod Names
 pub mod Pairs
+pub mod Stored
 pub mod Texts
 pub mod formers

@@ -73,6 +73,7 @@ impl Bytes {
         ensures err { OnErr result (self.new.bytes ≡ self.old.bytes) }
         ensures room { length s.now ≤ self.old.spare → IsOk result }
         ensures spare { self.old.spare ≤ self.new.spare + length s.now }
+        ensures kept { OnErr result (self.old.spare ≤ self.new.spare) }
     {
         self.inner.extend_from_slice(s)?;
         Ok(())

@@ -76,4 +76,16 @@ impl<T: Drop> List<T> {
         self.inner.push(member)?;
         Ok(())
     }
+
+    /// Puts the members of `other` at the end, and leaves `other` empty. Without memory for them both
+    /// lists stay.
+    pub fn append(&mut self, other: &mut List<T>) -> Result<(), OutOfMemory>
+        ensures ok { OnOk result (self.new ≡ self.old ++ other.old) }
+        ensures empty { OnOk result (other.new ≡ []) }
+        ensures err { OnErr result (self.new ≡ self.old) }
+        ensures kept { OnErr result (other.new ≡ other.old) }
+    {
+        self.inner.append(&mut other.inner)?;
+        Ok(())
+    }
 }

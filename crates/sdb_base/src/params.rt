@@ -2,7 +2,7 @@ ghost use Rattle.std.specs.Prelude.{◌≡◌, ◌<◌, [], ◌∷◌, ◌++◌,
 ghost use Rattle.std.specs.Option.{option_copied};
 ghost use Rattle.std.specs.List.{find};
 ghost use Rattle.std.specs.Str.{bytes_eq};
-ghost use Rattle.sdb_base.specs.Pairs.{value_of};
+ghost use Rattle.sdb_base.specs.Pairs.{HasDistinctNames, value_of};
 
 use crate::{OutOfMemory, Text};
 use std::alloc::Global;
@@ -35,10 +35,26 @@ impl Params {
         }
     }
 
+    /// Takes pairs of which no two have one name.
+    pub fn of(pairs: Vec<(Text, Text)>) -> Params
+        requires { HasDistinctNames pairs.items }
+        ensures { result ≡ pairs.items }
+    {
+        Params { pairs }
+    }
+
     pub fn len(&self) -> usize
-        ensures { result ≡ length self.now }
+        ensures count { result ≡ length self.now }
+        ensures distinct { HasDistinctNames self.now }
     {
         self.pairs.len()
+    }
+
+    /// Names and values, in the order that they came.
+    pub fn as_slice(&self) -> &[(Text, Text)]
+        ensures { result.now ≡ self.now }
+    {
+        self.pairs.as_slice()
     }
 
     /// The value of the parameter of that name.

@@ -1,41 +1,65 @@
-ghost use Rattle.std.specs.Prelude.{◌≡◌, Some, IfOk, refl, string_bytes};
+ghost use Rattle.std.specs.Prelude.{◌≡◌, Some, IfOk, IsUtf8, refl, string_bytes};
 ghost use Rattle.std.specs.Cmp.{partial_equiv_from_equiv};
 ghost use Rattle.std.specs.Cmp.Lexicographic.{slice_cmp, nat_list_eq_equiv, nat_list_cmp_total, texts_ties, texts_po};
 ghost use Rattle.std.specs.Ordering.{nat_cmp};
 ghost use Rattle.std.specs.Str.{bytes_eq};
 
 use crate::OutOfMemory;
+use arrayvec::ArrayString;
 use std::alloc::Global;
 use std::cmp::Ordering;
 use std::marker::Model;
 
-/// A text in UTF-8, which contracts see as its bytes. Texts are ordered by their bytes.
-#[derive(Debug, Drop)]
+/// A text in UTF-8, which contracts see as its bytes. Texts are ordered by their bytes. One of at most
+/// 24 bytes stands in the value itself and takes no memory.
+#[derive(Debug)]
 pub struct Text {
-    inner: String,
+    inner: Stored,
+}
+
+// Where the bytes of a text stand.
+#[derive(Debug, Drop)]
+enum Stored {
+    Here(ArrayString<24>),
+    OnHeap(String),
 }
 
 impl Model for Text {
-    ghost use Rattle.std.specs.Prelude.{List, ℕ, string_bytes};
+    ghost use Rattle.std.specs.Prelude.{List, ℕ};
 
     ghost Value = { List ℕ };
 
-    ghost view = { λ text. string_bytes text.inner };
+    ghost use Rattle.sdb_base.specs.Stored.{bytes_of};
+
+    ghost view = { λ text. bytes_of text.inner };
+}
+
+// Written by hand, so that no caller's proof has to look at where the bytes stand.
+impl Drop for Text {
+    fn drop(self) {
+        let Text { inner: _inner } = self;
+    }
 }
 
 impl Text {
     pub fn from_str(alloc: Global, s: &str) -> Result<Text, OutOfMemory>
         ensures { IfOk result (λ text. text ≡ s.now) }
     {
-        Ok(Text {
-            inner: String::from_str(alloc, s)?,
-        })
+        let inner = match ArrayString::from(s) {
+            Ok(short) => Stored::Here(short),
+            Err(_) => Stored::OnHeap(String::from_str(alloc, s)?),
+        };
+        Ok(Text { inner })
     }
 
-    /// Takes a string as it is, without a copy.
-    pub fn from_string(inner: String) -> Text
-        ensures { result ≡ string_bytes inner }
+    /// Takes a string; a long one is taken as it is, without a copy.
+    pub fn from_string(s: String) -> Text
+        ensures { result ≡ string_bytes s }
     {
+        let inner = match ArrayString::from(s.as_str()) {
+            Ok(short) => Stored::Here(short),
+            Err(_) => Stored::OnHeap(s),
+        };
         Text { inner }
     }
 
@@ -46,9 +70,13 @@ impl Text {
     }
 
     pub fn as_str(&self) -> &str
-        ensures { result.now ≡ self.now }
+        ensures value { result.now ≡ self.now }
+        ensures utf8 { IsUtf8 self.now }
     {
-        self.inner.as_str()
+        match &self.inner {
+            Stored::Here(short) => short.as_str(),
+            Stored::OnHeap(long) => long.as_str(),
+        }
     }
 }
 

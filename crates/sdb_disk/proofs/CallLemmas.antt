@@ -1,6 +1,5 @@
--- How calls of a disk compose: moments, causes of faults, and what a crash in a run of calls leaves.
-use Rattle.std.proofs.Common.{inl, inr, ⊎_elim, ℕ, ◌≤◌, List, Result, Ok, Err, refl, sym, ◌∙◌, arith}
-use Rattle.sdb_base.specs.Causes.{HasCause}
+-- How calls of a disk compose: moments, and what a crash in a run of calls leaves. Lemmas of causes stand in sdb_base's `CauseLemmas`.
+use Rattle.std.proofs.Common.{inl, inr, ⊎_elim, ℕ, ◌≤◌, List, refl, sym, ◌∙◌, arith}
 use Rattle.sdb_disk.specs.Disk.{Files, State, Image, SettledFile, Torn, CutTo, SameFile, SameFiles, Elapses, Passes, LeavesOnly}
 
 -- one run of calls after another
@@ -78,7 +77,3 @@ Torn-refl at n c = record { before = refl; after = refl; no_shorter = omega arit
 -- a file that nothing was cut from is one that a cut may leave
 pub CutTo-refl : (n : ℕ) (c : List ℕ) → CutTo n c c
 CutTo-refl n c = record { front = refl; no_longer = omega arith }
-
-pub HasCause-after : {T E : Type 0} (a b c : ℕ) (result : Result T E) → a ≤ b → HasCause b c result → HasCause a c result
-HasCause-after a b c (Ok x) later cause = record { later = omega (arith, cause.later); failed = tt }
-HasCause-after a b c (Err e) later cause = record { later = omega (arith, cause.later); failed = omega (arith, cause.failed) }

@@ -1,30 +1,11 @@
--- How calls on sources and sinks compose: causes of faults, and fronts of what is written.
--- Those of `Appends`, `Consumes` and `Keeps` alone stand in std's `KnownBytes`.
-use Rattle.std.proofs.Common.{◌≡◌, ℕ, ◌+◌, ◌-◌, ◌≤◌, List, [], ◌++◌, length, take, drop, Result, Ok, Err, refl, sym, ap, ◌∙◌, subst, append_assoc, append-nil, take-append-drop, length-append, arith}
+-- How writes on sinks compose: fronts of what is written.
+-- Lemmas of `Appends`, `Consumes` and `Keeps` alone stand in std's `KnownBytes`, those of causes in sdb_base's `CauseLemmas`.
+use Rattle.std.proofs.Common.{◌≡◌, ℕ, ◌+◌, ◌-◌, ◌≤◌, List, [], ◌++◌, length, take, drop, refl, sym, ap, ◌∙◌, subst, append_assoc, append-nil, take-append-drop, length-append, arith}
 use Rattle.std.proofs.lemmas.List.{take_rest, take-append-le}
 use Rattle.std.proofs.Math.Seq.{take-append_seam, take-append-add, take-length}
 use Rattle.std.specs.declared.option.Option.{Option}
 use Rattle.std.specs.Io.KnownBytes.{Appends, Keeps}
 use Rattle.std.proofs.KnownBytes.{Appends-nil, Appends-trans, Appends-kept}
-use Rattle.sdb_base.specs.Causes.{Rose, HasCause}
-
--- a count that rose had risen already, where it didn't fall before
-pub Rose-after : (a b c : ℕ) → a ≤ b → Rose b c → Rose a c
-Rose-after a b c later rose = omega arith
-
--- and it has risen still, where it doesn't fall later
-pub Rose-before : (a b c : ℕ) → Rose a b → b ≤ c → Rose a c
-Rose-before a b c rose later = omega arith
-
--- the last of two calls decides the answer
-pub HasCause-after : {T E : Type 0} (a b c : ℕ) (result : Result T E) → a ≤ b → HasCause b c result → HasCause a c result
-HasCause-after a b c (Ok x) later cause = record { later = omega arith; failed = tt }
-HasCause-after a b c (Err e) later cause = record { later = omega arith; failed = Rose-after a b c later cause.failed }
-
--- a call that hands on the answer of another, with a count that doesn't fall since
-pub HasCause-before : {T E : Type 0} (a b c : ℕ) (result : Result T E) → HasCause a b result → b ≤ c → HasCause a c result
-HasCause-before a b c (Ok x) cause later = record { later = omega arith; failed = tt }
-HasCause-before a b c (Err e) cause later = record { later = omega arith; failed = Rose-before a b c cause.failed later }
 
 -- part of the way through a write of `all`: what stands before `rest` is written
 pub record PartWritten (before now : Option (List ℕ)) (all rest : List ℕ) : Type 0 where

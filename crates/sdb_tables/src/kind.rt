@@ -28,11 +28,17 @@ pub(crate) fn fits(kind: FieldKind, text: &str) -> bool
 {
     match kind {
         FieldKind::Domain => is_domain_name(text),
-        FieldKind::Name => 1 <= text.len() && text.len() <= 1024,
+        FieldKind::Name => is_name(text),
         FieldKind::Flag => is_flag(text),
         FieldKind::Number(least, most) => is_number(text, least, most),
         FieldKind::Plain(most) => text.len() as u64 <= most,
     }
+}
+
+fn is_name(text: &str) -> bool
+    ensures { result ≡ is_name text.now }
+{
+    1 <= text.len() && text.len() <= 1024
 }
 
 fn is_domain_name(text: &str) -> bool

@@ -17,11 +17,11 @@ loop-i-preserved c =
           ap (λ (m : BTreeMap ℕ NamedValues). get nat_cmp m q) w.map-is
           ∙ w.in_ok-add_part.ensures q
           ∙ ap (λ (had : Option NamedValues). cond (eqb w.in-Some.place q) (Some (unwrap_or had [] ++ (w.in-Some.part.now, param.1) ∷ [])) had) (c.loop-i.invariant q)
-          ∙ one_part c.args.kind _ param (w.in-Some.place, w.in-Some.part.now) q (ap (part_of c.args.kind) (sym c.as_str.ensures) ∙ sym w.in-Some.ensures)
+          ∙ one_part c.args.kind _ param (w.in-Some.place, w.in-Some.part.now) q (ap (part_of c.args.kind) (sym c.as_str.ensures.value) ∙ sym w.in-Some.ensures)
           ∙ ap (λ (params : NamedValues). entry_at c.args.kind params q) more
       | in_default w ↦ λ q.
           ap (λ (m : BTreeMap ℕ NamedValues). get nat_cmp m q) w.map-is
           ∙ c.loop-i.invariant q
-          ∙ no_part c.args.kind _ param q (ap (part_of c.args.kind) (sym c.as_str.ensures) ∙ sym w.in_default.ensures)
+          ∙ no_part c.args.kind _ param q (ap (part_of c.args.kind) (sym c.as_str.ensures.value) ∙ sym w.in_default.ensures)
           ∙ ap (λ (params : NamedValues). entry_at c.args.kind params q) more
     ]

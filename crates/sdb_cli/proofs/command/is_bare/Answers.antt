@@ -20,4 +20,4 @@ pub returns-in-len1 : goal.returns-in-len1
 returns-in-len1 c =
     let one : c.args.words.now ≡ c.word-item.result ∷ [] =
     single c.args.words.now c.word-item.result (omega (arith, ap length c.as_slice.ensures)) (c.word-item.is ∙ ap (λ xs. get_or xs 0 c.word-item.result) c.as_slice.ensures) in
-    is_word c.args.words.now c.word-item.result _ c.eq.result one (c.eq.ensures ∙ ap (λ w. bytes_eq w (98 ∷ 97 ∷ 114 ∷ 101 ∷ [])) c.as_str.ensures)
+    is_word c.args.words.now c.word-item.result _ c.eq.result one (c.eq.ensures ∙ ap (λ w. bytes_eq w (98 ∷ 97 ∷ 114 ∷ 101 ∷ [])) c.as_str.ensures.value)

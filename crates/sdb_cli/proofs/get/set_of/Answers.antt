@@ -17,7 +17,7 @@ loop-name-preserved c =
     let i = c.loop-name.name-index in
     let key = c.as_str.result.now in
     let inside : i < length names = omega arith in
-    let same : key ≡ c.name-item.result = c.as_str.ensures in
+    let same : key ≡ c.name-item.result = c.as_str.ensures.value in
     let longer : take (i + 1) names ≡ take i names ++ key ∷ [] = take_more names i c.name-item.result inside ∙ ap (λ name. take i names ++ name ∷ []) (sym c.name-item.is ∙ sym same) in
     λ name.
     c.in_ok-insert.ensures.updates.0 (record { ref_ptr = (0, 0); now = name })

@@ -19,7 +19,7 @@ loop-name-preserved-then-pairs-ne0 c =
     let inv = c.loop-name.invariant in (
       count_more c.args.names.now front c.next.new.self c.in-Some.name.now c.in-Some.pairs.now all c.loop-name.count c.saturating_add-count.result c.if-pairs-ne0.true (subst (λ l. length l < 2 ^ 63) c.range_after-name-items.ensures.entries c.range_after-name-items.ensures.fits) inv.0 c.saturating_add-count.ensures
           ∙ ap (λ l. length (names_counted l)) (sym new),
-      bytes_more c.args.names.now front c.next.new.self c.in-Some.name.now c.in-Some.pairs.now all c.loop-name.bytes c.saturating_add-bytes.result c.args.most c.if-pairs-ne0.true c.requires (omega arith) inv.1 (c.saturating_add-bytes.ensures ∙ ap (λ l. min (c.loop-name.bytes + length l) (2 ^ 64 - 1)) c.as_str.ensures)
+      bytes_more c.args.names.now front c.next.new.self c.in-Some.name.now c.in-Some.pairs.now all c.loop-name.bytes c.saturating_add-bytes.result c.args.most c.if-pairs-ne0.true c.requires (omega arith) inv.1 (c.saturating_add-bytes.ensures ∙ ap (λ l. min (c.loop-name.bytes + length l) (2 ^ 64 - 1)) c.as_str.ensures.value)
           ∙ ap (λ l. sum_by length (names_counted l)) (sym new),
     )
 

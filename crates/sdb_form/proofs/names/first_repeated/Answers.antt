@@ -18,7 +18,7 @@ returns-then-not-branch c =
     let names = keys_of c.args.pairs.now in
     let i = c.loop-place.place in
     let inside : i < length names = omega (arith, length-keys_of c.args.pairs.now) in
-    let same = c.as_str.ensures ∙ name_at c.args.pairs.now i c.index-pairs-place.result c.loop-place-test.true c.index-pairs-place.is in
+    let same = c.as_str.ensures.value ∙ name_at c.args.pairs.now i c.index-pairs-place.result c.loop-place-test.true c.index-pairs-place.is in
     let there = not_false _ (sym c.in_ok-insert.ensures.added ∙ c.if-not-branch.true) in
     let found = sym (c.loop-place.invariant.found c.as_str.result.now) ∙ there in
     first_repeat names i inside c.loop-place.invariant.distinct (subst (λ name. list_any (bytes_eq name) (take i names) ≡ true) same found)
@@ -29,7 +29,7 @@ loop-place-preserved c =
     let i = c.loop-place.place in
     let key = c.as_str.result.now in
     let inside : i < length names = omega (arith, length-keys_of c.args.pairs.now) in
-    let same = c.as_str.ensures ∙ name_at c.args.pairs.now i c.index-pairs-place.result c.loop-place-test.true c.index-pairs-place.is in
+    let same = c.as_str.ensures.value ∙ name_at c.args.pairs.now i c.index-pairs-place.result c.loop-place-test.true c.index-pairs-place.is in
     let absent = not_true _ (sym c.in_ok-insert.ensures.added ∙ c.if-not-branch.false) in
     let new = sym (c.loop-place.invariant.found key) ∙ absent in
     let longer : take (i + 1) names ≡ take i names ++ key ∷ [] = take_more names i [] inside ∙ ap (λ name. take i names ++ name ∷ []) (sym same) in

@@ -27,18 +27,18 @@ overflow_add-result c =
 
 pub returns-in-Bad-clause-cut : goal.returns-in-Bad-clause-cut
 returns-in-Bad-clause-cut c = λ _.
-    subst (λ l. Cuts 0 l (Err (BadByte (c.cut.at + c.in-Bad.on)))) (cc (c.as_bytes-bytes.ensures.value, c.as_str.ensures))
+    subst (λ l. Cuts 0 l (Err (BadByte (c.cut.at + c.in-Bad.on)))) (cc (c.as_bytes-bytes.ensures.value, c.as_str.ensures.value))
     (at_bad_byte c.as_bytes-bytes.result.now c.cut.at c.cut.tokens c.cut.invariant c.split_at.result.1.now c.split_at.ensures.back c.in-Bad.on c.in-Bad.ensures)
 
 pub returns-in-Unclosed-clause-cut : goal.returns-in-Unclosed-clause-cut
 returns-in-Unclosed-clause-cut c = λ _.
-    subst (λ l. Cuts 0 l (Err (Unclosed c.cut.at))) (cc (c.as_bytes-bytes.ensures.value, c.as_str.ensures))
+    subst (λ l. Cuts 0 l (Err (Unclosed c.cut.at))) (cc (c.as_bytes-bytes.ensures.value, c.as_str.ensures.value))
     (at_open_sign c.as_bytes-bytes.result.now c.cut.at c.cut.tokens c.cut.invariant c.split_at.result.1.now c.split_at.ensures.back c.in-Unclosed.ensures)
 
 pub returns : goal.returns
 returns c =
     let cuts : Cuts 0 c.args.text.now (Ok c.cut.tokens) =
-    subst (λ l. Cuts 0 l (Ok c.cut.tokens)) (cc (c.as_bytes-bytes.ensures.value, c.as_str.ensures))
+    subst (λ l. Cuts 0 l (Ok c.cut.tokens)) (cc (c.as_bytes-bytes.ensures.value, c.as_str.ensures.value))
     (elim c.cut-test.branch [
       | else-cut-test w ↦ ended c.as_bytes-bytes.result.now c.cut.at c.cut.tokens c.cut.invariant (omega arith)
       | then-cut-test+in-Nothing w ↦ at_nothing c.as_bytes-bytes.result.now c.cut.at c.cut.tokens c.cut.invariant w.split_at.result.1.now w.split_at.ensures.back w.in-Nothing.ensures

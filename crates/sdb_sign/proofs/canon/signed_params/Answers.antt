@@ -20,15 +20,15 @@ loop-place-preserved c =
       | then-is_signed_name+in_ok-insert w ↦
           let key = w.as_str-then-is_signed_name.result in
           let value = w.as_str-then-is_signed_name-2.result in
-          let signed : is_signed_name param.0 ≡ true = ap is_signed_name (sym c.as_str.ensures) ∙ sym c.is_signed_name.ensures ∙ w.if-is_signed_name.true in
+          let signed : is_signed_name param.0 ≡ true = ap is_signed_name (sym c.as_str.ensures.value) ∙ sym c.is_signed_name.ensures ∙ w.if-is_signed_name.true in
           ap (λ m. map deref_pair m.entries) w.rising-is
           ∙ ap (map deref_pair) w.in_ok-insert.ensures.entries
           ∙ map-insert_entry c.loop-place.rising.entries key value
-          ∙ rw (w.as_str-then-is_signed_name.ensures, w.as_str-then-is_signed_name-2.ensures, c.loop-place.invariant) refl
+          ∙ rw (w.as_str-then-is_signed_name.ensures.value, w.as_str-then-is_signed_name-2.ensures.value, c.loop-place.invariant) refl
           ∙ sym (cond-true _ _ _ signed)
           ∙ sym more
       | else-is_signed_name w ↦
-          let unsigned : is_signed_name param.0 ≡ false = ap is_signed_name (sym c.as_str.ensures) ∙ sym c.is_signed_name.ensures ∙ w.if-is_signed_name.false in
+          let unsigned : is_signed_name param.0 ≡ false = ap is_signed_name (sym c.as_str.ensures.value) ∙ sym c.is_signed_name.ensures ∙ w.if-is_signed_name.false in
           ap (λ m. map deref_pair m.entries) w.rising-is
           ∙ c.loop-place.invariant
           ∙ sym (cond-false _ _ _ unsigned)

@@ -34,8 +34,8 @@ loop-pair-preserved c =
           (λ name.
           ap (λ s. is_seen name s.keys) w.seen-is
           ∙ w.in_ok-insert.ensures.updates.0 (record { ref_ptr = (0, 0); now = name })
-          ∙ ap (λ k. cond (is_eq (slice_cmp nat_cmp k name)) true (is_seen name seen)) w.as_str.ensures)
-          (ap (λ k. is_seen k seen) (sym w.as_str.ensures) ∙ not_true _ (sym w.in_ok-insert.ensures.added ∙ w.if-branch.true))
+          ∙ ap (λ k. cond (is_eq (slice_cmp nat_cmp k name)) true (is_seen name seen)) w.as_str.ensures.value)
+          (ap (λ k. is_seen k seen) (sym w.as_str.ensures.value) ∙ not_true _ (sym w.in_ok-insert.ensures.added ∙ w.if-branch.true))
           (w.ops-is ∙ w.in_ok-push.ensures.ok ∙ ap (λ name. c.loop-pair.ops ++ DropName name ∷ []) w.in_ok-copy.ensures))
       | else-pair w ↦ elim w.else-pair.branch [
         | else-pair-via-then-pair+in_ok-insert+else-branch v ↦
@@ -43,8 +43,8 @@ loop-pair-preserved c =
             (λ name.
             ap (λ s. is_seen name s.keys) (w.seen-is ∙ v.seen-is)
             ∙ v.in_ok-insert.ensures.updates.0 (record { ref_ptr = (0, 0); now = name })
-            ∙ ap (λ k. cond (is_eq (slice_cmp nat_cmp k name)) true (is_seen name seen)) v.as_str.ensures)
-            (ap (λ k. is_seen k seen) (sym v.as_str.ensures) ∙ not_false _ (sym v.in_ok-insert.ensures.added ∙ v.if-branch.false))
+            ∙ ap (λ k. cond (is_eq (slice_cmp nat_cmp k name)) true (is_seen name seen)) v.as_str.ensures.value)
+            (ap (λ k. is_seen k seen) (sym v.as_str.ensures.value) ∙ not_false _ (sym v.in_ok-insert.ensures.added ∙ v.if-branch.false))
             w.ops-is)
         | else-pair-via-else-pair v ↦
             step (dropped_none puts (put_of pair) seen c.if-pair.seen.keys c.args.ops.now c.loop-pair.ops c.if-pair.ops c.loop-pair.invariant v.if-pair.false
