@@ -21,6 +21,24 @@ fn texts_are_ordered_by_bytes(rt: HostRuntime) -> Result<(), Fail> {
 }
 
 #[test]
+fn texts_keep_their_bytes_wherever_they_stand(rt: HostRuntime) -> Result<(), Fail> {
+    let alloc = rt.alloc();
+    for s in [
+        "",
+        "abcdefghijklmnopqrstuvwx",
+        "abcdefghijklmnopqrstuvwxy",
+        "\u{e9}\u{e9}\u{e9}\u{e9}\u{e9}\u{e9}\u{e9}\u{e9}\u{e9}\u{e9}\u{e9}\u{e9}\u{e9}",
+    ] {
+        let text = Text::from_str(alloc, s)?;
+        assert_eq!(rt; text.as_str(), s);
+        assert_eq!(rt; text.copy(alloc)?.as_str(), s);
+        let string = String::from_str(alloc, s)?;
+        assert_eq!(rt; Text::from_string(string).as_str(), s);
+    }
+    Ok(())
+}
+
+#[test]
 fn decimals_are_read(rt: HostRuntime) {
     let cases = [
         (b"0".as_slice(), 9, Some(0)),
@@ -53,9 +71,14 @@ fn calls_succeed_with_ample_memory(rt: HostRuntime) -> Result<(), Fail> {
     params.add(Text::from_str(alloc, "k")?, Text::from_str(alloc, "v")?)?;
     assert!(rt; params.get("k").is_some_and(|value| value.as_str() == "v"));
     assert!(rt; params.get("K").is_none());
+    assert_eq!(rt; params.as_slice().len(), 1);
     let mut numbers = Numbers::new(alloc);
     numbers.push(7)?;
-    assert_eq!(rt; numbers.as_slice(), [7].as_slice());
+    let mut more = Numbers::new(alloc);
+    more.push(8)?;
+    numbers.append(&mut more)?;
+    assert_eq!(rt; numbers.as_slice(), [7, 8].as_slice());
+    assert!(rt; more.is_empty());
     assert_eq!(rt; Boxed::new(alloc, 5)?.into_inner(), 5);
     Ok(())
 }

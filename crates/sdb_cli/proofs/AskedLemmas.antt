@@ -7,23 +7,23 @@ use Rattle.sdb_tables.specs.declared.refusal.Refusal.TheVariants.{InvalidAction}
 use Rattle.sdb_action.specs.declared.action.Action.{Action}
 use Rattle.sdb_action.specs.Actions.{action_of}
 use Rattle.sdb_action.specs.Asked.{asked as request_of}
-use Rattle.sdb_cli.specs.Line.{asked, asked_by, is_executed, params_of, requested}
+use Rattle.sdb_cli.specs.Line.{asked, asked_by, is_executed, line_params, requested}
 use Rattle.sdb_cli.specs.Lines.{most_line}
 
-pub asked-short : (line : List ℕ) → length line ≤ most_line → asked line ≡ asked_by (params_of line)
+pub asked-short : (line : List ℕ) → length line ≤ most_line → asked line ≡ asked_by (line_params line)
 unfolding asked
 asked-short line short = rw (le-ltb most_line (length line) short) refl
 
-pub asked-params_err : (line : List ℕ) (refusal : Refusal) → length line ≤ most_line → params_of line ≡ Err refusal → asked line ≡ Err refusal
+pub asked-params_err : (line : List ℕ) (refusal : Refusal) → length line ≤ most_line → line_params line ≡ Err refusal → asked line ≡ Err refusal
 asked-params_err line refusal short params = asked-short line short ∙ ap asked_by params
 
-pub asked-action_err : (line : List ℕ) (params : NamedValues) (refusal : Refusal) → length line ≤ most_line → params_of line ≡ Ok params → action_of params ≡ Err refusal → asked line ≡ Err refusal
+pub asked-action_err : (line : List ℕ) (params : NamedValues) (refusal : Refusal) → length line ≤ most_line → line_params line ≡ Ok params → action_of params ≡ Err refusal → asked line ≡ Err refusal
 asked-action_err line params refusal short read action = asked-short line short ∙ ap asked_by read ∙ ap (requested params) action
 
-pub asked-not_executed : (line : List ℕ) (params : NamedValues) (action : Action) → length line ≤ most_line → params_of line ≡ Ok params → action_of params ≡ Ok action → is_executed action ≡ false → asked line ≡ Err InvalidAction
+pub asked-not_executed : (line : List ℕ) (params : NamedValues) (action : Action) → length line ≤ most_line → line_params line ≡ Ok params → action_of params ≡ Ok action → is_executed action ≡ false → asked line ≡ Err InvalidAction
 asked-not_executed line params action short read is_action not_executed =
     asked-short line short ∙ ap asked_by read ∙ ap (requested params) is_action ∙ ap (λ t. if t then request_of action params else Err InvalidAction) not_executed
 
-pub asked-request : (line : List ℕ) (params : NamedValues) (action : Action) → length line ≤ most_line → params_of line ≡ Ok params → action_of params ≡ Ok action → is_executed action ≡ true → asked line ≡ request_of action params
+pub asked-request : (line : List ℕ) (params : NamedValues) (action : Action) → length line ≤ most_line → line_params line ≡ Ok params → action_of params ≡ Ok action → is_executed action ≡ true → asked line ≡ request_of action params
 asked-request line params action short read is_action executed =
     asked-short line short ∙ ap asked_by read ∙ ap (requested params) is_action ∙ ap (λ t. if t then request_of action params else Err InvalidAction) executed

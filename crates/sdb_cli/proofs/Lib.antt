@@ -1,7 +1,6 @@
 pub mod AskedLemmas
 pub mod DigitsLemmas
 pub mod EscapeLemmas
-pub mod FormLemmas
 pub mod GetLemmas
 pub mod LinesLemmas
 pub mod LongLemmas

@@ -1,6 +1,6 @@
 // The request of a line.
 ghost use Rattle.std.specs.Prelude.{◌≡◌};
-ghost use Rattle.sdb_cli.specs.Line.{asked, is_executed as executes, params_of};
+ghost use Rattle.sdb_cli.specs.Line.{asked, is_executed as executes, line_params};
 ghost use Rattle.sdb_tables.specs.Answers.{Answers};
 
 use crate::held::MOST_LINE;
@@ -27,7 +27,7 @@ pub(crate) fn read_line(alloc: Global, line: &[u8]) -> Result<Request, Refusal>
 }
 
 fn read_params(alloc: Global, form: &[u8]) -> Result<Params, Refusal>
-    ensures { Answers (params_of form.now) result }
+    ensures { Answers (line_params form.now) result }
 {
     match sdb_form::read(alloc, form) {
         Ok(params) => Ok(params),

@@ -39,13 +39,13 @@ one_repeated form m n a b =
     let same = same_pairs form a.pairs b.pairs a.are_pairs b.are_pairs in
     one_first (IsRepeat (keys_of b.pairs)) m n (subst (λ ps. IsFirst (IsRepeat (keys_of ps)) m) same a.first) b.first
 
-abbrev Answer : Type 0
+abbrev pub Answer : Type 0
 Answer = Result (List (List ℕ × List ℕ)) FormFault
 
-abbrev no_memory : Answer
+abbrev pub no_memory : Answer
 no_memory = Err variant.OutOfMemory
 
-one_answer : (form : List ℕ) (a b : Answer) → IsAnswer form a → IsAnswer form b → a ≢ no_memory → b ≢ no_memory → a ≡ b
+pub one_answer : (form : List ℕ) (a b : Answer) → IsAnswer form a → IsAnswer form b → a ≢ no_memory → b ≢ no_memory → a ≡ b
 one_answer form (Ok a) (Ok b) x y _ _ = ap Ok (one_params form a b x y)
 one_answer form (Ok a) (Err (variant.NotUtf8 n)) x y _ _ = absurd (no_spoiled form a n x.pairs x.texts y)
 one_answer form (Ok a) (Err (variant.Repeated n)) x y _ _ = absurd (none_repeated form a n x y)

@@ -1,4 +1,6 @@
 pub mod Answers
 pub mod Decoding
 pub mod Firsts
+pub mod Params
+pub mod Plains
 pub mod Repeats

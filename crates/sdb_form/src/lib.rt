@@ -9,5 +9,5 @@ mod reading;
 mod text;
 
 pub use fault::FormFault;
-pub use laws::{one_reading, one_text};
+pub use laws::{one_answer, one_reading, one_text};
 pub use reading::read;

@@ -1,24 +1,12 @@
 ghost use Rattle.std.specs.Prelude.{◌≡◌, ◌≢◌, ◌↔◌, ℕ, List, IfOk, Ok, Err};
-ghost use Rattle.sdb_base.specs.Pairs.{HasDistinctNames};
 ghost use Rattle.sdb_form.specs.Form.{IsParams, IsFirstNotUtf8, IsFirstRepeated};
-ghost use Rattle.sdb_form.specs.Answer.{IsAnswer};
+ghost use Rattle.sdb_form.specs.Answer.{IsAnswer, params_of};
 
 use crate::fault::FormFault;
 use crate::names::first_repeated;
 use crate::pairs::pairs_of;
-use sdb_base::{OutOfMemory, Params, Text};
+use sdb_base::Params;
 use std::alloc::Global;
-
-fn params_of(alloc: Global, pairs: Vec<(Text, Text)>) -> Result<Params, OutOfMemory>
-    requires { HasDistinctNames pairs.items }
-    ensures { IfOk result (λ params. params ≡ pairs.items) }
-{
-    let mut params = Params::new(alloc);
-    for (name, value) in pairs {
-        params.add(name, value)?;
-    }
-    Ok(params)
-}
 
 fn answer(alloc: Global, form: &[u8]) -> Result<Params, FormFault>
     ensures { IsAnswer form.now result }
@@ -26,7 +14,7 @@ fn answer(alloc: Global, form: &[u8]) -> Result<Params, FormFault>
     let pairs = pairs_of(alloc, form)?;
     match first_repeated(alloc, &pairs)? {
         Some(place) => Err(FormFault::Repeated(place as u64)),
-        None => Ok(params_of(alloc, pairs)?),
+        None => Ok(Params::of(pairs)),
     }
 }
 
@@ -48,6 +36,7 @@ pub fn read(alloc: Global, form: &[u8]) -> Result<Params, FormFault>
         → (result ≡ Err (FormFault.NotUtf8 place)) ↔ IsFirstNotUtf8 form.now place }
     ensures repeated { (place : ℕ) → result ≢ Err FormFault.OutOfMemory
         → (result ≡ Err (FormFault.Repeated place)) ↔ IsFirstRepeated form.now place }
+    ensures answer { result ≢ Err FormFault.OutOfMemory → result ≡ params_of form.now }
 {
     answer(alloc, form)
 }

@@ -1,6 +1,10 @@
-use Rattle.std.proofs.Common.{ap, ◌∙◌, subst, IsUtf8}
+use Rattle.std.proofs.Common.{ap, ◌∙◌, sym, subst, IsUtf8}
 use Rattle.std.proofs.lemmas.Str.{IsUtf8-string_bytes}
+use Rattle.sdb_form.proofs.Plains.{decode-plain}
 use Rattle.sdb_form.proofs.text.text_of.Goals as goal
+
+pub returns-then-is_plain : goal.returns-then-is_plain
+returns-then-is_plain c = rw (decode-plain c.args.raw.now (sym c.is_plain.ensures ∙ c.if-is_plain.true)) c.copied_text.ensures
 
 pub returns-in-Ok : goal.returns-in-Ok
 returns-in-Ok c =

@@ -1,0 +1,7 @@
+-- Raw texts that stand for themselves.
+use Rattle.std.specs.Prelude.{ℕ, Bool, not, ◌&&◌, ◌==◌}
+use Rattle.sdb_form.specs.Form.{percent, plus}
+
+-- neither `+` nor `%`
+abbrev pub is_plain : ℕ → Bool
+is_plain b = not (b == plus) && not (b == percent)
