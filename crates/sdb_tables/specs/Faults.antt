@@ -15,7 +15,7 @@ pub record Fault : Type 0 where
 abbrev pub seen : FaultRow → Fault
 seen row = record { code = row.code.now; status = row.status; message = row.message.now }
 
--- the table, in the order in which its refusals come
+-- the table. The order of its rows says nothing of which refusal comes first
 unfoldable pub faults : List Fault
 faults =
     record { code = codes "InvalidHttpRequest"; status = 400; message = codes "The HTTP request is invalid." }
@@ -178,6 +178,7 @@ name_of OutOfMemory = codes "OutOfMemory"
 abbrev pub answer_statuses : List ℕ
 answer_statuses = 200 ∷ 400 ∷ 403 ∷ 404 ∷ 409 ∷ 413 ∷ 414 ∷ 500 ∷ 503 ∷ []
 
+-- a status that responses have
 abbrev pub IsAnswerStatus : ℕ → Type 0
 IsAnswerStatus status = IsTrue (list_any (λ s. s == status) answer_statuses)
 

@@ -1,3 +1,5 @@
+//! The fault table, and the row of each refusal.
+
 ghost use Rattle.std.specs.Prelude.{◌≡◌, ◌<◌, length, map, slice_index_or};
 ghost use Rattle.std.specs.List.{IsDistinct};
 ghost use Rattle.std.specs.Str.{bytes_eq};
@@ -17,7 +19,8 @@ pub struct FaultRow {
     pub message: &'static str,
 }
 
-/// The fault table, in the order in which its refusals come.
+/// The fault table. Its order is the order of these rows alone: which refusal comes first where several hold is
+/// the matter of those who refuse (docs/PROFILE.md, "Refusals").
 pub const FAULTS: [FaultRow; 35] = [
     FaultRow {
         code: "InvalidHttpRequest",

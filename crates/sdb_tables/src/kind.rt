@@ -1,3 +1,5 @@
+//! The kinds of fields, and which texts are of each.
+
 ghost use Rattle.std.specs.Prelude.{◌≡◌, map};
 ghost use Rattle.std.specs.Char.{to_ascii_lowercase};
 ghost use Rattle.std.specs.List.{list_all};
@@ -22,7 +24,7 @@ pub enum FieldKind {
     Plain(u64),
 }
 
-/// Whether a text is of that kind.
+// Whether a text is of that kind.
 pub(crate) fn fits(kind: FieldKind, text: &str) -> bool
     ensures { result ≡ fits kind text.now }
 {

@@ -1,4 +1,7 @@
-ghost use Rattle.std.specs.Prelude.{◌≡◌};
+//! Why requests are refused.
+
+ghost use Rattle.std.specs.Prelude.{◌≡◌, Some};
+ghost use Rattle.sdb_tables.specs.Faults.{fault_of};
 
 use crate::faults::fault_row;
 use sdb_base::OutOfMemory;
@@ -6,7 +9,7 @@ use std::error::Error;
 use std::fmt;
 
 /// Why a request is refused. What a variant carries is for logs and tests: its answer is its row of the
-/// fault table.
+/// fault table. It is shown by the message of that row.
 #[derive(Clone, Copy, Debug, PartialEq, Eq)]
 pub enum Refusal {
     InvalidHttpRequest,
@@ -49,6 +52,8 @@ pub enum Refusal {
 }
 
 impl fmt::Display for Refusal {
+    ghost output = { λ refusal. Some (fault_of refusal).message };
+
     fn fmt<W: fmt::Write>(&self, f: &mut fmt::Formatter<W>) -> fmt::Result {
         f.write_str(fault_row(self).message)
     }

@@ -1,3 +1,5 @@
+//! Rows of fields, and what parameters give by them.
+
 ghost use Rattle.std.specs.Prelude.{◌≡◌, ◌<◌, length, slice_get, IfOk, MatchResult};
 ghost use Rattle.std.specs.Option.{option_copied};
 ghost use Rattle.sdb_tables.specs.Answers.{Answers};
