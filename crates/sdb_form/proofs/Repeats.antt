@@ -1,7 +1,7 @@
 -- Names that stand twice.
-use Rattle.std.proofs.Common.{◌≡◌, ℕ, ◌+◌, ◌<◌, Bool, true, false, cond, not, ◌||◌, List, [], ◌∷◌, ◌++◌, length, get_or, take, None, refl, sym, ap, ◌∙◌, arith, length-take}
-use Rattle.std.specs.List.{IsDistinct, AllByRecursion, list_any}
-use Rattle.std.specs.Map.{keys_of, lookup}
+use Rattle.std.proofs.Common.{◌≡◌, ℕ, ◌+◌, ◌<◌, Bool, true, false, cond, not, ◌||◌, List, [], ◌∷◌, ◌++◌, length, get_or, take, refl, sym, ap, ◌∙◌, arith, length-take}
+use Rattle.std.specs.List.{IsDistinct, list_any}
+use Rattle.std.specs.Map.{keys_of}
 use Rattle.std.specs.Ordering.{is_eq, nat_cmp}
 use Rattle.std.specs.Cmp.Lexicographic.{slice_cmp}
 use Rattle.std.specs.Str.{bytes_eq}
@@ -9,12 +9,11 @@ use Rattle.std.proofs.lemmas.Bool.{both_ways}
 use Rattle.std.proofs.lemmas.Cmp.{nat_list_eq_equiv}
 use Rattle.std.proofs.lemmas.List.{take_more, get_or-take, take-take, get_or-map}
 use Rattle.std.proofs.lemmas.List.Folds.{list_any-append}
-use Rattle.std.proofs.lemmas.Map.Keys.{IsDistinct-push, apart_from_distinct, IsDistinct-head, IsDistinct-tail}
+use Rattle.std.proofs.lemmas.Map.Keys.{IsDistinct-push, apart_from_distinct}
 use Rattle.std.proofs.lemmas.Map.Text.{is_eq-slice_cmp}
 use Rattle.std.proofs.lemmas.Map.Views.{Contains-from_any}
 use Rattle.std.proofs.lemmas.Slice.Eq.{bytes_eq-Decides}
 use Rattle.std.proofs.lemmas.Grind.{common_steps}
-use Rattle.sdb_base.specs.Pairs.{HasDistinctNames}
 use Rattle.sdb_form.specs.Form.{IsFirst, IsRepeat}
 
 pub no_repeat : (names : List (List ℕ)) (k : ℕ) → IsDistinct bytes_eq names → ¬ (IsRepeat names k)
@@ -55,19 +54,6 @@ either false false = refl
 pub found_more : (q name : List ℕ) (names : List (List ℕ)) → cond (is_eq (slice_cmp nat_cmp name q)) true (list_any (bytes_eq q) names) ≡ list_any (bytes_eq q) (names ++ name ∷ [])
 found_more q name names =
     rw (list_any-append (bytes_eq q) names (name ∷ []), is_eq-slice_cmp name q, nat_list_eq_equiv.symm name q) (either (bytes_eq q name) (list_any (bytes_eq q) names))
-
-among : (P : List ℕ → Type 0) (before after : List (List ℕ × List ℕ)) (pair : List ℕ × List ℕ) → AllByRecursion P (keys_of (before ++ pair ∷ after)) → P pair.0
-among P [] after pair all = all.0
-among P (first ∷ before) after pair all = among P before after pair all.1
-
--- where no name stands twice, a name stands nowhere before its place
-pub new_name : (before after : List (List ℕ × List ℕ)) (pair : List ℕ × List ℕ) → HasDistinctNames (before ++ pair ∷ after) → lookup (bytes_eq pair.0) before ≡ None
-new_name [] after pair distinct = refl
-new_name (first ∷ before) after pair distinct =
-    let names = keys_of (before ++ pair ∷ after) in
-    let apart = among (λ name. bytes_eq first.0 name ≡ false) before after pair (IsDistinct-head bytes_eq first.0 names distinct) in
-    let other : bytes_eq pair.0 first.0 ≡ false = nat_list_eq_equiv.symm pair.0 first.0 ∙ apart in
-    rw other (new_name before after pair (IsDistinct-tail bytes_eq first.0 names distinct))
 
 pub name_at : (pairs : List (List ℕ × List ℕ)) (i : ℕ) (pair : List ℕ × List ℕ) → i < length pairs → pair ≡ get_or pairs i pair → pair.0 ≡ get_or (keys_of pairs) i []
 name_at pairs i pair inside at =

@@ -2,7 +2,6 @@ use Rattle.std.proofs.Common.{◌≡◌, Result, Err, inr, ap, ◌∙◌, sym}
 use Rattle.std.specs.Result.{result_map_both}
 use Rattle.sdb_base.specs.Pairs.{NamedValues}
 use Rattle.sdb_form.specs.declared.fault.FormFault.{FormFault}
-use Rattle.sdb_tables.specs.declared.refusal.Refusal.{Refusal}
 use Rattle.sdb_cli.specs.Line.{refusal_of_fault}
 use Rattle.sdb_cli.proofs.line.read_params.Goals as goal
 
