@@ -1,3 +1,7 @@
+pub mod Cases
 pub mod DecimalLemmas
+pub mod EntryLemmas
+pub mod KeyLemmas
+pub mod OptionLemmas
 pub mod PairsLemmas
 mod StepsWalks
