@@ -2,7 +2,7 @@
 use Rattle.std.proofs.Common.{◌≡◌, ℕ, suc, ◌<◌, List, ◌∷◌, ◌++◌, Result, Ok, Err, sym, ap, ◌∙◌, inl, inr, length, drop, drop-cons, get_or}
 use Rattle.sdb_tables.specs.Answers.{Answers}
 use Rattle.sdb_tables.specs.declared.refusal.Refusal.{Refusal}
-use Rattle.sdb_action.specs.Steps.{before_rest, each}
+use Rattle.sdb_base.specs.Results.{before_rest, each}
 
 -- members that were read, before what the rest gives
 abbrev pub after_members : {B : Type 0} → List B → Result (List B) Refusal → Result (List B) Refusal

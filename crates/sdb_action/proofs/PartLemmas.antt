@@ -7,9 +7,9 @@ use Rattle.std.specs.Cmp.Lexicographic.{nat_list_eq_equiv}
 use Rattle.std.proofs.lemmas.Slice.Eq.{bytes_eq-Decides}
 use Rattle.sdb_base.specs.Pairs.{NamedValues, value_of}
 use Rattle.sdb_tables.specs.declared.rules.ParamRow.{ParamRow}
-use Rattle.sdb_action.specs.Steps.{before_rest, each}
+use Rattle.sdb_base.specs.Results.{before_rest, each}
 use Rattle.sdb_action.specs.Tables.{seen, judged_by, field_by, fields_by}
-use Rattle.sdb_action.proofs.Beginnings.{by_bool}
+use Rattle.sdb_base.proofs.Cases.{by_bool}
 
 bytes_same : (a b : List ℕ) → bytes_eq a b ≡ true → a ≡ b
 bytes_same a b e = (bytes_eq-Decides a b).0 e

@@ -8,7 +8,7 @@ use Rattle.sdb_action.specs.declared.action.Action.{Action}
 use Rattle.sdb_action.specs.declared.action.Action.TheVariants as action
 use Rattle.sdb_action.specs.declared.request.Request.{Request}
 use Rattle.sdb_action.specs.declared.request.Request.TheVariants as request
-use Rattle.sdb_action.specs.Steps.{and_then}
+use Rattle.sdb_base.specs.Results.{and_then}
 use Rattle.sdb_action.specs.Tables.{fields_by, field_at, text_at, domain_rows, item_rows, get_rows, list_rows, select_rows}
 use Rattle.sdb_action.specs.Lists.{put_pairs, drop_parts, asked_names, put_items, drop_items, expectation}
 

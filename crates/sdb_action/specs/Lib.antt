@@ -3,8 +3,8 @@ pub mod Asked
 pub mod Entries
 pub mod Lists
 pub mod Numbers
-pub mod Steps
 pub mod Tables
 pub use Rattle.sdb_tables.specs.Answers
 pub use Rattle.sdb_tables.specs.Rules
 pub use Rattle.sdb_base.specs.Pairs
+pub use Rattle.sdb_base.specs.Results

@@ -13,7 +13,7 @@ use Rattle.sdb_action.specs.declared.request.Expect.{Expect}
 use Rattle.sdb_action.specs.declared.request.PutItem.{PutItem}
 use Rattle.sdb_action.specs.declared.request.DropItem.{DropItem}
 use Rattle.sdb_action.specs.Entries.{entries}
-use Rattle.sdb_action.specs.Steps.{and_then, each}
+use Rattle.sdb_base.specs.Results.{and_then, each}
 use Rattle.sdb_action.specs.Tables.{fields_by, field_at, text_at, flag_is, put_rows, drop_rows, name_rows, item_name_rows, expect_rows}
 
 -- ---- numbers of entries

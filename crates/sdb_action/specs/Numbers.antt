@@ -11,10 +11,10 @@ abbrev pub Part : Type 0
 Part = ℕ × List ℕ
 
 -- what follows a beginning, where the text begins so
-unfoldable pub after : List ℕ → List ℕ → Option (List ℕ)
-after [] text = Some text
-after (c ∷ cs) [] = None
-after (c ∷ cs) (d ∷ ds) = if c == d then after cs ds else None
+unfoldable pub after_prefix : List ℕ → List ℕ → Option (List ℕ)
+after_prefix [] text = Some text
+after_prefix (c ∷ cs) [] = None
+after_prefix (c ∷ cs) (d ∷ ds) = if c == d then after_prefix cs ds else None
 
 -- the place of the entry with that number: `0`, or digits without a leading zero, at most 9999
 unfoldable pub place_of : List ℕ → Option ℕ
@@ -49,7 +49,7 @@ is_expected_part part = bytes_eq part (codes "Name") || bytes_eq part (codes "Va
 
 -- `Attribute.N.Name`, `.Value` and `.Replace`
 unfoldable pub attribute_part : List ℕ → Option Part
-attribute_part name = known is_attribute_part (option_and_then numbered (after (codes "Attribute.") name))
+attribute_part name = known is_attribute_part (option_and_then numbered (after_prefix (codes "Attribute.") name))
 
 -- the name of the item, or a part of one of its attributes
 abbrev pub is_item_part : List ℕ → Bool
@@ -57,20 +57,20 @@ is_item_part part = bytes_eq part (codes "ItemName") || is_some (attribute_part 
 
 -- `Item.N.ItemName`, and `Item.N.` before a part of an attribute
 unfoldable pub item_part : List ℕ → Option Part
-item_part name = known is_item_part (option_and_then numbered (after (codes "Item.") name))
+item_part name = known is_item_part (option_and_then numbered (after_prefix (codes "Item.") name))
 
 -- `AttributeName` alone, and `AttributeName.N`; the one part is called `Name`
 unfoldable pub name_part : List ℕ → Option Part
 name_part name =
     if bytes_eq name (codes "AttributeName") then Some (0, codes "Name")
-    else at_place (codes "Name") (option_and_then place_of (after (codes "AttributeName.") name))
+    else at_place (codes "Name") (option_and_then place_of (after_prefix (codes "AttributeName.") name))
 
 -- `Expected.Name`, `.Value` and `.Exists`, and the same with a number
 abbrev pub expected_rest : List ℕ → Option Part
 expected_rest rest = if is_expected_part rest then Some (0, rest) else known is_expected_part (numbered rest)
 
 unfoldable pub expected_part : List ℕ → Option Part
-expected_part name = option_and_then expected_rest (after (codes "Expected.") name)
+expected_part name = option_and_then expected_rest (after_prefix (codes "Expected.") name)
 
 -- the part that a parameter of that name is, in a list of that kind
 abbrev pub part_of : EntryKind → List ℕ → Option Part

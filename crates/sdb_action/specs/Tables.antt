@@ -10,7 +10,7 @@ use Rattle.sdb_tables.specs.declared.refusal.Refusal.TheVariants.{InvalidParamet
 use Rattle.sdb_tables.specs.declared.rules.ParamRow.{ParamRow}
 use Rattle.sdb_tables.specs.Kinds.{fits}
 use Rattle.sdb_tables.specs.Rules.{Field}
-use Rattle.sdb_action.specs.Steps.{each}
+use Rattle.sdb_base.specs.Results.{each}
 
 -- a row of a table: the parameter's name, what its value has to be, and whether it has to be there
 pub record Row : Type 0 where

@@ -1,5 +1,5 @@
+ghost use Rattle.sdb_base.specs.Results as results;
 ghost use Rattle.sdb_tables.specs.Answers.{Answers};
-ghost use Rattle.sdb_action.specs.Steps as steps;
 
 use crate::entries::{Entries, Parts};
 use sdb_base::List;
@@ -21,7 +21,7 @@ pub(crate) trait FromParts: Sized {
 
 /// What each entry is read as, in order. The first that is refused decides.
 pub(crate) fn each<T: FromParts + Drop>(alloc: Global, list: &Entries) -> Result<List<T>, Refusal>
-    ensures { Answers (steps.each T.reads list.now) result }
+    ensures { Answers (results.each T.reads list.now) result }
 {
     let mut members = List::new(alloc);
     for parts in list.as_slice() {

@@ -30,7 +30,7 @@ pub(crate) fn part_of(kind: EntryKind, name: &str) -> Option<(u16, &str)>
 fn attribute_part(name: &str) -> Option<(u16, &str)>
     ensures { option_map (λ part. (part.0, part.1.now)) result ≡ names.attribute_part name.now }
 {
-    let part = numbered(after(name, "Attribute.")?)?;
+    let part = numbered(after_prefix(name, "Attribute.")?)?;
     if is_attribute_part(part.1) {
         Some(part)
     } else {
@@ -42,7 +42,7 @@ fn attribute_part(name: &str) -> Option<(u16, &str)>
 fn item_part(name: &str) -> Option<(u16, &str)>
     ensures { option_map (λ part. (part.0, part.1.now)) result ≡ names.item_part name.now }
 {
-    let part = numbered(after(name, "Item.")?)?;
+    let part = numbered(after_prefix(name, "Item.")?)?;
     if is_item_part(part.1) {
         Some(part)
     } else {
@@ -57,7 +57,7 @@ fn name_part(name: &str) -> Option<(u16, &str)>
     if name == "AttributeName" {
         return Some((0, "Name"));
     }
-    let place = place_of(after(name, "AttributeName.")?)?;
+    let place = place_of(after_prefix(name, "AttributeName.")?)?;
     Some((place, "Name"))
 }
 
@@ -65,7 +65,7 @@ fn name_part(name: &str) -> Option<(u16, &str)>
 fn expected_part(name: &str) -> Option<(u16, &str)>
     ensures { option_map (λ part. (part.0, part.1.now)) result ≡ names.expected_part name.now }
 {
-    let rest = after(name, "Expected.")?;
+    let rest = after_prefix(name, "Expected.")?;
     if is_expected_part(rest) {
         return Some((0, rest));
     }
@@ -119,8 +119,8 @@ fn place_of(digits: &str) -> Option<u16>
     Some(number as u16 + 1)
 }
 
-fn after<'t>(text: &'t str, beginning: &str) -> Option<&'t str>
-    ensures { option_copied result ≡ names.after beginning.now text.now }
+fn after_prefix<'t>(text: &'t str, beginning: &str) -> Option<&'t str>
+    ensures { option_copied result ≡ names.after_prefix beginning.now text.now }
 {
     text.strip_prefix(beginning)
 }

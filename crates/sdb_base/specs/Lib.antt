@@ -1,8 +1,12 @@
+pub mod Ascii
 pub mod Buffer
 pub mod Causes
 pub mod Decimal
+pub mod Entries
 pub mod Names
+pub mod Options
 pub mod Pairs
+pub mod Results
 pub mod Stored
 pub mod Texts
 pub mod formers

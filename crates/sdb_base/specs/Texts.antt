@@ -14,5 +14,5 @@ abbrev pub text_cmp : TextBytes → TextBytes → Ordering
 text_cmp = slice_cmp nat_cmp
 
 -- each text is less than the next
-abbrev pub IsRising : List TextBytes → Type 0
-IsRising = IsStrictlySortedBy text_cmp
+abbrev pub AreRising : List TextBytes → Type 0
+AreRising = IsStrictlySortedBy text_cmp

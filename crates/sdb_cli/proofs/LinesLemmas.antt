@@ -6,7 +6,7 @@ use Rattle.std.proofs.lemmas.Bool.Decides.{eqb_tells}
 use Rattle.std.proofs.lemmas.List.Folds.{list_all-append}
 use Rattle.std.proofs.lemmas.List.Splits.{slice_split-cons_no, length-slice_split}
 use Rattle.sdb_cli.specs.Lines.{but_last, but_empty_last, lines_of, whole_lines, IsOneLine, CutsLines}
-use Rattle.sdb_cli.specs.Plain.{Standing, told, answer, after, answers}
+use Rattle.sdb_cli.specs.Plain.{Standing, told, answer, after_line, answers}
 
 abbrev lf : ℕ → Bool
 lf b = b == 10
@@ -64,7 +64,7 @@ some_part bytes = omega (arith, length-slice_split lf bytes)
 
 -- a line that ends: its answer, and what is told then
 pub told-line : (cut : List ℕ → List (List ℕ)) → CutsLines cut → (now next : Standing) (line rest : List ℕ) → IsOneLine now.held → IsOneLine line
-    → next ≡ record { number = now.number + 1; accounts = after now.accounts (now.held ++ line); held = [] }
+    → next ≡ record { number = now.number + 1; accounts = after_line now.accounts (now.held ++ line); held = [] }
     → told cut now (line ++ 10 ∷ rest) ≡ answer now.number now.accounts (now.held ++ line) ++ told cut next rest
 told-line cut cuts now next line rest held one is =
     ap (λ bytes. answers now.number now.accounts (cut bytes)) (sym (append_assoc now.held line (10 ∷ rest)))
@@ -118,7 +118,7 @@ pub record Fed (before now : Standing) (old new piece rest : List ℕ) : Type 0 
 pub Fed-line : (before now next : Standing) (old new newer piece rest line : List ℕ) (at : ℕ) → Fed before now old new piece rest
     → at < length rest → IsOneLine (take at rest) → drop at rest ≡ 10 ∷ drop (at + 1) rest → line ≡ take at rest
     → newer ≡ new ++ answer now.number now.accounts (now.held ++ line)
-    → next ≡ record { number = now.number + 1; accounts = after now.accounts (now.held ++ line); held = [] }
+    → next ≡ record { number = now.number + 1; accounts = after_line now.accounts (now.held ++ line); held = [] }
     → Fed before next old newer piece (drop (at + 1) rest)
 Fed-line before now next old new newer piece rest line at fed inside one ends is answered next_is =
     let whole : rest ≡ line ++ 10 ∷ drop (at + 1) rest = sym (take-append-drop at rest) ∙ ap (λ l. take at rest ++ l) ends ∙ ap (λ l. l ++ 10 ∷ drop (at + 1) rest) (sym is) in

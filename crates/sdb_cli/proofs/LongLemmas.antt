@@ -7,7 +7,7 @@ use Rattle.sdb_tables.specs.declared.refusal.Refusal.TheVariants.{RequestTooLong
 use Rattle.sdb_cli.specs.Body.{refused}
 use Rattle.sdb_cli.specs.Line.{asked}
 use Rattle.sdb_cli.specs.Lines.{Alike, IsOneLine, CutsLines, long_line, most_line, zeros}
-use Rattle.sdb_cli.specs.Plain.{answer, after, answers}
+use Rattle.sdb_cli.specs.Plain.{answer, after_line, answers}
 use Rattle.sdb_pairs.specs.Accounts.{DomainEntries}
 use Rattle.sdb_cli.proofs.LinesLemmas.{IsOneLine-append, line_end_from_position}
 
@@ -39,17 +39,17 @@ pub answer-long : (number : ℕ) (accounts : DomainEntries) (line : List ℕ) �
 unfolding answer
 answer-long number accounts line long = rw (asked-long line long) refl
 
-pub after-long : (accounts : DomainEntries) (line : List ℕ) → most_line < length line → after accounts line ≡ accounts
-unfolding after
-after-long accounts line long = rw (asked-long line long) refl
+pub after_line-long : (accounts : DomainEntries) (line : List ℕ) → most_line < length line → after_line accounts line ≡ accounts
+unfolding after_line
+after_line-long accounts line long = rw (asked-long line long) refl
 
 pub answer-alike : (number : ℕ) (accounts : DomainEntries) (one other : List ℕ) → Alike one other → answer number accounts one ≡ answer number accounts other
 answer-alike number accounts one other (inl same) = ap (answer number accounts) same
 answer-alike number accounts one other (inr long) = answer-long number accounts one long.0 ∙ sym (answer-long number accounts other long.1)
 
-pub after-alike : (accounts : DomainEntries) (one other : List ℕ) → Alike one other → after accounts one ≡ after accounts other
-after-alike accounts one other (inl same) = ap (after accounts) same
-after-alike accounts one other (inr long) = after-long accounts one long.0 ∙ sym (after-long accounts other long.1)
+pub after_line-alike : (accounts : DomainEntries) (one other : List ℕ) → Alike one other → after_line accounts one ≡ after_line accounts other
+after_line-alike accounts one other (inl same) = ap (after_line accounts) same
+after_line-alike accounts one other (inr long) = after_line-long accounts one long.0 ∙ sym (after_line-long accounts other long.1)
 
 alike-append : (one other back : List ℕ) → Alike one other → Alike (one ++ back) (other ++ back)
 alike-append one other back (inl same) = inl (ap (λ l. l ++ back) same)
@@ -58,8 +58,8 @@ alike-append one other back (inr long) = inr (omega (arith, long.0, length-appen
 -- the answers to lines of which the first are alike
 answers-alike : (number : ℕ) (accounts : DomainEntries) (one other : List ℕ) (lines : List (List ℕ)) → Alike one other → answers number accounts (one ∷ lines) ≡ answers number accounts (other ∷ lines)
 answers-alike number accounts one other lines alike =
-    ap (λ l. l ++ answers (number + 1) (after accounts one) lines) (answer-alike number accounts one other alike)
-    ∙ ap (λ s. answer number accounts other ++ answers (number + 1) s lines) (after-alike accounts one other alike)
+    ap (λ l. l ++ answers (number + 1) (after_line accounts one) lines) (answer-alike number accounts one other alike)
+    ∙ ap (λ s. answer number accounts other ++ answers (number + 1) s lines) (after_line-alike accounts one other alike)
 
 -- the last line, where lines alike and too long come before it
 last-alike : (cut : List ℕ → List (List ℕ)) → CutsLines cut → (number : ℕ) (accounts : DomainEntries) (one other : List ℕ) → IsOneLine one → IsOneLine other

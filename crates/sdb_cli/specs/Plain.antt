@@ -91,13 +91,13 @@ unfoldable pub answer : ℕ → DomainEntries → List ℕ → List ℕ
 answer number accounts line = reply_to number accounts (asked line) ++ 10 ∷ []
 
 -- the accounts once the line is answered
-unfoldable pub after : DomainEntries → List ℕ → DomainEntries
-after accounts line = after_asked accounts (asked line)
+unfoldable pub after_line : DomainEntries → List ℕ → DomainEntries
+after_line accounts line = after_asked accounts (asked line)
 
 -- the answers to lines, of which the first has that number
 abbrev pub answers : ℕ → DomainEntries → List (List ℕ) → List ℕ
 answers number accounts [] = []
-answers number accounts (line ∷ lines) = answer number accounts line ++ answers (number + 1) (after accounts line) lines
+answers number accounts (line ∷ lines) = answer number accounts line ++ answers (number + 1) (after_line accounts line) lines
 
 -- the answers to an input, over accounts that begin empty
 abbrev pub plain : List ℕ → List ℕ

@@ -1,7 +1,7 @@
 // One line answered over the accounts.
 ghost use Rattle.std.specs.Prelude.{◌≡◌, ◌∷◌, [], ◌++◌, OnOk};
 ghost use Rattle.sdb_cli.specs.Executed.{done_seen};
-ghost use Rattle.sdb_cli.specs.Plain.{account, after, after_request, after_written, answer as answer_to, reply, reply_got, reply_written};
+ghost use Rattle.sdb_cli.specs.Plain.{account, after_line, after_request, after_written, answer as answer_to, reply, reply_got, reply_written};
 ghost use Rattle.sdb_cli.specs.Body.{refused};
 ghost use Rattle.sdb_pairs.specs.Accounts.{items_of, pairs_at};
 ghost use Rattle.sdb_write.specs.Writes.{IsSingleWrite, write as write_to};
@@ -25,7 +25,7 @@ const ACCOUNT: AccountId = AccountId(1);
 struct Looked;
 
 /// Executes the request of a line, whose number is given, and appends its answer and an LF.
-#[tactic(auto, using(std::proofs::Common::append_assoc), unfolding(crate::specs::Plain::answer, crate::specs::Plain::after))]
+#[tactic(auto, using(std::proofs::Common::append_assoc), unfolding(crate::specs::Plain::answer, crate::specs::Plain::after_line))]
 pub(crate) fn answer(
     alloc: Global,
     accounts: &mut Accounts,
@@ -33,7 +33,7 @@ pub(crate) fn answer(
     line: &[u8],
     out: &mut Bytes,
 ) -> Result<(), OutOfMemory>
-    ensures accounts { OnOk result (accounts.new ≡ after accounts.old line.now) }
+    ensures accounts { OnOk result (accounts.new ≡ after_line accounts.old line.now) }
     ensures bytes { OnOk result (out.new.bytes ≡ out.old.bytes ++ answer_to number accounts.old line.now) }
 {
     match read_line(alloc, line) {

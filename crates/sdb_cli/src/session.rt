@@ -1,7 +1,7 @@
 // Lines that come in pieces.
 ghost use Rattle.std.specs.Prelude.{◌≡◌, ℕ, ◌+◌, ◌-◌, ◌^◌, ◌<◌, ◌≤◌, List, [], ◌∷◌, ◌++◌, length, take, drop, OnOk, MatchOption};
 ghost use Rattle.sdb_cli.specs.Lines.{IsOneLine, CutsLines, lines_of};
-ghost use Rattle.sdb_cli.specs.Plain.{answer as answer_to, after, beginning, told};
+ghost use Rattle.sdb_cli.specs.Plain.{answer as answer_to, after_line, beginning, told};
 ghost use Rattle.sdb_cli.specs.Standing.{standing};
 
 use crate::answer::{answer, refuse_long_line};
@@ -66,7 +66,7 @@ impl Session {
     fn end_line(&mut self, end: &[u8], out: &mut Bytes) -> Result<(), OutOfMemory>
         requires { self.old.number + 1 < 2 ^ 64 }
         ensures answer { OnOk result (out.new.bytes ≡ out.old.bytes ++ answer_to self.old.number self.old.accounts (self.old.held ++ end.now)) }
-        ensures after { OnOk result (standing self.new ≡ record { number = self.old.number + 1; accounts = after self.old.accounts (self.old.held ++ end.now); held = [] }) }
+        ensures after { OnOk result (standing self.new ≡ record { number = self.old.number + 1; accounts = after_line self.old.accounts (self.old.held ++ end.now); held = [] }) }
     {
         self.answer_line(end, out)?;
         self.held.clear();
@@ -77,7 +77,7 @@ impl Session {
     // A line that came in one piece is answered as it stands there.
     fn answer_line(&mut self, end: &[u8], out: &mut Bytes) -> Result<(), OutOfMemory>
         ensures answer { OnOk result (out.new.bytes ≡ out.old.bytes ++ answer_to self.old.number self.old.accounts (self.old.held ++ end.now)) }
-        ensures after { OnOk result (self.new.accounts ≡ after self.old.accounts (self.old.held ++ end.now)) }
+        ensures after { OnOk result (self.new.accounts ≡ after_line self.old.accounts (self.old.held ++ end.now)) }
         ensures number { self.new.number ≡ self.old.number }
     {
         if self.held.is_empty() {
@@ -90,7 +90,7 @@ impl Session {
     // Answers the line that is held.
     fn answer_held(&mut self, out: &mut Bytes) -> Result<(), OutOfMemory>
         ensures answer { OnOk result (out.new.bytes ≡ out.old.bytes ++ answer_to self.old.number self.old.accounts self.old.held) }
-        ensures after { OnOk result (self.new.accounts ≡ after self.old.accounts self.old.held) }
+        ensures after { OnOk result (self.new.accounts ≡ after_line self.old.accounts self.old.held) }
         ensures number { self.new.number ≡ self.old.number }
     {
         match self.held.line() {

@@ -6,11 +6,11 @@ use Rattle.std.proofs.lemmas.Map.Lookups.{exact_bytes}
 use Rattle.sdb_base.specs.Texts.{text_cmp}
 use Rattle.sdb_pairs.specs.declared.change.Change.{Change}
 use Rattle.sdb_pairs.specs.Accounts.{ItemEntries}
-use Rattle.sdb_pairs.specs.Entries.{found, placed, IsRising}
-use Rattle.sdb_pairs.proofs.EntryLemmas.{found-placed}
+use Rattle.sdb_base.specs.Entries.{found, placed, IsRising}
+use Rattle.sdb_base.proofs.EntryLemmas.{found-placed}
 use Rattle.sdb_domain.specs.declared.slot.Step.{Step}
 use Rattle.sdb_domain.specs.Slots.{Slots, shown, domains_shown, AccountKept, IsWholeAccount, count_shown, weight_shown, weight_of_domain}
-use Rattle.sdb_domain.specs.Steps.{account_of, domain_of, items_after, Steps, step_undone, CanUndoStep, account_undone, AccountSteps}
+use Rattle.sdb_domain.specs.Steps.{account_of, domain_of, items_after, StepsTo, step_undone, CanUndoStep, account_undone, AccountSteps}
 use Rattle.sdb_domain.proofs.EntryViews.{sum_placed, adds}
 use Rattle.sdb_domain.proofs.ItemSums.{length_as_sum}
 use Rattle.sdb_domain.proofs.SeenLemmas.{rising-seen}
@@ -23,7 +23,7 @@ weight_adds : (k : List ℕ) (o : Option ItemEntries) → weight_shown o ≡ add
 weight_adds k None = refl
 weight_adds k (Some items) = refl
 
-module _ (old : AccountKept) (slots : Slots) (name : List ℕ) (items : Option ItemEntries) (step : Step) (whole : IsWholeAccount old) (steps : Steps old.slots slots name items step) (rises : IsRising text_cmp slots) where
+module _ (old : AccountKept) (slots : Slots) (name : List ℕ) (items : Option ItemEntries) (step : Step) (whole : IsWholeAccount old) (steps : StepsTo old.slots slots name items step) (rises : IsRising text_cmp slots) where
   old_rises : IsRising text_cmp (domains_shown old.slots)
   old_rises = rising-seen shown old.slots whole.rise
 
@@ -64,7 +64,7 @@ module _ (old : AccountKept) (slots : Slots) (name : List ℕ) (items : Option I
       λ i. record { slots = back i; count = old.count; weight = old.weight }
 
 pub account_steps : (old : AccountKept) (slots : Slots) (change : Change) (step : Step) (account : ℕ) (kept_name : List ℕ) (count weight : ℕ) → IsWholeAccount old
-    → Steps old.slots slots (domain_of change) (items_after (found text_cmp (domains_shown old.slots) (domain_of change)) change) step → IsRising text_cmp slots → account ≡ account_of change → kept_name ≡ domain_of change
+    → StepsTo old.slots slots (domain_of change) (items_after (found text_cmp (domains_shown old.slots) (domain_of change)) change) step → IsRising text_cmp slots → account ≡ account_of change → kept_name ≡ domain_of change
     → AccountSteps old (record { slots = slots; count = count; weight = weight }) change (record { account = account; name = kept_name; step = step; count = old.count; weight = old.weight })
 account_steps old slots change step account kept_name count weight whole steps rises same e =
     let items = items_after (found text_cmp (domains_shown old.slots) (domain_of change)) change in

@@ -14,8 +14,9 @@ use Rattle.std.proofs.lemmas.Map.Lookups.{CmpEqualImpliesEq}
 use Rattle.std.proofs.lemmas.Map.Steps.{set_value_same}
 use Rattle.std.proofs.lemmas.List.Sums.{sum_by-cons}
 use Rattle.sdb_base.specs.Texts.{text_cmp}
-use Rattle.sdb_pairs.specs.Entries.{found, placed, IsRising}
-use Rattle.sdb_pairs.proofs.KeyLemmas.{by_bool, by_ordering}
+use Rattle.sdb_base.specs.Entries.{found, placed, IsRising}
+use Rattle.sdb_base.proofs.Cases.{by_bool, by_ordering}
+use Rattle.sdb_base.proofs.EntryLemmas.{key_at}
 use Rattle.sdb_domain.specs.Keyed.{back, unwound}
 
 pub none_is_not_some : {X : Type 0} {P : Type 0} (x : X) → None ≡ Some x → P
@@ -120,11 +121,6 @@ unwound_more undone state (v ∷ log) u = ap (λ st. undone st v) (unwound_more 
 -- ---- sums over entries
 
 module _ {K X : Type 0} {cmp : K → K → Ordering} (o : IsTotalOrder cmp) (exact : CmpEqualImpliesEq cmp) (f : K × X → ℕ) (d : X) where
-  tie : (r : Ordering) → is_eq r ≡ true → r ≡ Equal
-  tie Less h = absurd (true≢false (sym h))
-  tie Equal h = refl
-  tie Greater h = absurd (true≢false (sym h))
-
   -- what stands under the key weighs, or what stands for nothing
   abbrev pub weight_at : List (K × X) → K → ℕ
   weight_at es k = f (k, unwrap_or (found cmp es k) d)
@@ -163,7 +159,7 @@ module _ {K X : Type 0} {cmp : K → K → Ordering} (o : IsTotalOrder cmp) (exa
       by_bool (is_at (cmp k) e.0)
       (λ t.
       let b : weight_at (e ∷ es) k ≡ f (k, e.1) = ap (λ x. f (k, unwrap_or x d)) (found_first (is_at (cmp k)) e es t) in
-      let u : f (k, e.1) ≡ f e = ap (λ x. f (x, e.1)) (exact k e.0 (tie (cmp k e.0) t)) in
+      let u : f (k, e.1) ≡ f e = ap (λ x. f (x, e.1)) (key_at exact k e.0 t) in
       omega arith)
       (λ n.
       let b : weight_at (e ∷ es) k ≡ weight_at es k = ap (λ x. f (k, unwrap_or x d)) (found_later (is_at (cmp k)) e es n) in
@@ -174,9 +170,6 @@ module _ {K X : Type 0} {cmp : K → K → Ordering} (o : IsTotalOrder cmp) (exa
   abbrev pub adds : K → Option X → ℕ
   adds k None = 0
   adds k (Some x) = f (k, x)
-
-  tied_key : (k : K) (e : K × X) → is_at (cmp k) e.0 ≡ true → k ≡ e.0
-  tied_key k e t = exact k e.0 (tie o exact f e.1 (cmp k e.0) t)
 
   pub sum_put : (es : List (K × X)) (k : K) (v : X) → IsRising cmp es → sum_by f (insert_entry cmp es k v) + adds k (found cmp es k) ≡ sum_by f es + f (k, v)
   unfolding IsStrictlySortedBy
@@ -209,7 +202,7 @@ module _ {K X : Type 0} {cmp : K → K → Ordering} (o : IsTotalOrder cmp) (exa
       (λ t.
       let a : sum_by f (remove_entry (is_at (cmp k)) (e ∷ es)) ≡ sum_by f es = ap (λ b. sum_by f (cond b es (e ∷ remove_entry (is_at (cmp k)) es))) t in
       let b : adds k (found cmp (e ∷ es) k) ≡ f (k, e.1) = ap (adds k) (found_first (is_at (cmp k)) e es t) in
-      let u : f (k, e.1) ≡ f e = ap (λ x. f (x, e.1)) (tied_key k e t) in
+      let u : f (k, e.1) ≡ f e = ap (λ x. f (x, e.1)) (key_at exact k e.0 t) in
       omega arith)
       (λ n.
       let ih = sum_removed es k in

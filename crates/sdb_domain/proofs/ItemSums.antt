@@ -7,7 +7,7 @@ use Rattle.sdb_pairs.specs.declared.pair.Pair.{Pair}
 use Rattle.sdb_pairs.specs.declared.op.Op.{Op}
 use Rattle.sdb_pairs.specs.Accounts.{ItemEntries, pairs_at}
 use Rattle.sdb_pairs.specs.Changes.{item_with, edited}
-use Rattle.sdb_pairs.specs.Entries.{found, placed, IsRising}
+use Rattle.sdb_base.specs.Entries.{found, placed, IsRising}
 use Rattle.sdb_pairs.specs.Pairs.{merged}
 use Rattle.sdb_domain.specs.Held.{Kept, IsWhole, items_kept, with_row}
 use Rattle.sdb_domain.specs.Keyed.{seen}

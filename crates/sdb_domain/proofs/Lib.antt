@@ -8,4 +8,5 @@ pub mod NumberLemmas
 pub mod RangeLemmas
 pub mod SeenLemmas
 pub mod SlotLemmas
+pub mod WalkLemmas
 pub mod WholeLemmas

@@ -4,16 +4,16 @@ use Rattle.std.specs.BTreeMap.{is_at}
 use Rattle.std.specs.List.{list_any}
 use Rattle.std.proofs.lemmas.Map.Lookups.{exact_bytes}
 use Rattle.std.proofs.lemmas.Bool.{eqb-true}
-use Rattle.sdb_pairs.proofs.StateLemmas.{key_at}
+use Rattle.sdb_base.proofs.EntryLemmas.{key_at}
 use Rattle.std.proofs.lemmas.List.Folds.{list_any-append}
 use Rattle.sdb_base.specs.Texts.{text_cmp}
 use Rattle.sdb_pairs.specs.declared.change.Change.{Change}
 use Rattle.std.specs.List.Sorted.{IsStrictlySortedBy}
 use Rattle.std.proofs.lemmas.List.Elements.{All-nil}
 use Rattle.sdb_pairs.specs.Accounts.{AreItems, AreAccounts}
-use Rattle.sdb_pairs.specs.Changes.{after}
-use Rattle.sdb_pairs.specs.Entries.{found}
-use Rattle.sdb_pairs.proofs.KeyLemmas.{by_bool}
+use Rattle.sdb_pairs.specs.Changes.{after_change}
+use Rattle.sdb_base.specs.Entries.{found}
+use Rattle.sdb_base.proofs.Cases.{by_bool}
 use Rattle.sdb_domain.specs.declared.account.Undo.{Undo}
 use Rattle.sdb_domain.specs.Keyed.{unwound}
 use Rattle.sdb_domain.specs.Slots.{AccountKept, no_account, account_at, accounts_shown, domains_shown, IsSettled, AreKept}
@@ -133,7 +133,7 @@ module _ (old : List AccountKept) (i : ℕ) (lt : i < length old) (new : Account
     settled = λ h. subst (AreSettledBut (set old i new)) (sym e) (step_settled log h);
   }
 
-  pub step_shown : accounts_shown (set old i new) ≡ after (accounts_shown old) change
+  pub step_shown : accounts_shown (set old i new) ≡ after_change (accounts_shown old) change
   step_shown = change_shown old i new change (let e = place in omega arith) lt steps.made
 
 pub same_logs : (old : List AccountKept) (log : List Undo) → Logs old log old log

@@ -13,9 +13,10 @@ use Rattle.sdb_base.specs.Texts.{text_cmp}
 use Rattle.sdb_pairs.specs.declared.pair.Pair.{Pair}
 use Rattle.sdb_pairs.specs.Accounts.{ItemEntries}
 use Rattle.sdb_pairs.specs.Changes.{item_with}
-use Rattle.sdb_pairs.specs.Entries.{found, IsRising}
+use Rattle.sdb_base.specs.Entries.{found, IsRising}
 use Rattle.sdb_pairs.specs.Pairs.{is_named}
-use Rattle.sdb_pairs.proofs.KeyLemmas.{by_ordering, has, has-insert_key, same_members, rising-insert_key}
+use Rattle.sdb_base.proofs.Cases.{by_ordering}
+use Rattle.sdb_base.proofs.KeyLemmas.{has, has-insert_key, same_members, rising-insert_key}
 use Rattle.sdb_domain.specs.Held.{Kept, IsWhole, items_kept, NameCounts, count_of, counted, names_counted}
 use Rattle.sdb_domain.specs.Keyed.{seen, with_shown}
 use Rattle.sdb_domain.proofs.RangeLemmas.{seen-append, append_nil}

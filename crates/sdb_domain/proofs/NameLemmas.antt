@@ -2,7 +2,7 @@
 use Rattle.std.proofs.Common.{◌≡◌, ℕ, List, [], ◌∷◌, ◌++◌, ap, ◌∙◌}
 use Rattle.std.specs.BTreeMap.{insert_entry}
 use Rattle.sdb_base.specs.Texts.{text_cmp}
-use Rattle.sdb_pairs.specs.Entries.{found, IsRising}
+use Rattle.sdb_base.specs.Entries.{found, IsRising}
 use Rattle.sdb_domain.specs.declared.names.NameWas.{NameWas}
 use Rattle.sdb_domain.specs.Held.{NameCounts, name_undone}
 use Rattle.sdb_domain.specs.Keyed.{unwound}

@@ -7,7 +7,7 @@ use Rattle.std.specs.BTreeMap.{is_at, insert_entry}
 use Rattle.std.specs.List.{AllByRecursion, sum_by}
 use Rattle.std.proofs.lemmas.Bool.{eqb-true}
 use Rattle.std.proofs.lemmas.List.Sums.{sum_by-cons}
-use Rattle.sdb_pairs.proofs.KeyLemmas.{by_bool}
+use Rattle.sdb_base.proofs.Cases.{by_bool}
 use Rattle.sdb_domain.specs.LookUps.{name_after, least_after}
 use Rattle.sdb_domain.specs.Weights.{domain_weight, domains_of, account_weight}
 use Rattle.std.proofs.lemmas.Cmp.{tied_itself, nat_cmp_total}
@@ -15,8 +15,8 @@ use Rattle.sdb_base.specs.Texts.{text_cmp}
 use Rattle.sdb_pairs.specs.declared.change.Change.{Change}
 use Rattle.sdb_pairs.specs.declared.change.Change.TheVariants.{MakeDomain, DropDomain, Edit}
 use Rattle.sdb_pairs.specs.Accounts.{ItemEntries, DomainEntries, domain_cmp, items_of}
-use Rattle.sdb_pairs.specs.Changes.{after}
-use Rattle.sdb_pairs.specs.Entries.{found, placed}
+use Rattle.sdb_pairs.specs.Changes.{after_change}
+use Rattle.sdb_base.specs.Entries.{found, placed}
 use Rattle.sdb_domain.specs.Slots.{Domains, domains_shown, AccountKept, numbered, accounts_shown, account_at, weight_of_domain}
 use Rattle.sdb_domain.specs.Steps.{account_of, domain_of, items_after}
 
@@ -161,7 +161,7 @@ shown_length (a ∷ more) = ap (λ n. suc n) (shown_length more)
 pub items_at : (accounts : List AccountKept) (i account : ℕ) (name : List ℕ) → account ≡ 1 + i → items_of (accounts_shown accounts) account name ≡ found text_cmp (domains_shown (account_at accounts i).slots) name
 items_at accounts i account name e = found_numbered (all_shown accounts) 1 i account name e ∙ ap (λ ds. found text_cmp ds name) (shown_at accounts i)
 
-after_placed : (accounts : DomainEntries) (change : Change) → after accounts change ≡ placed domain_cmp accounts (account_of change, domain_of change) (items_after (items_of accounts (account_of change) (domain_of change)) change)
+after_placed : (accounts : DomainEntries) (change : Change) → after_change accounts change ≡ placed domain_cmp accounts (account_of change, domain_of change) (items_after (items_of accounts (account_of change) (domain_of change)) change)
 after_placed accounts (MakeDomain account domain) = refl
 after_placed accounts (DropDomain account domain) = refl
 after_placed accounts (Edit account domain item ops) = refl
@@ -169,7 +169,7 @@ after_placed accounts (Edit account domain item ops) = refl
 -- a change of one account, in the list of all
 pub change_shown : (accounts : List AccountKept) (i : ℕ) (new : AccountKept) (change : Change) → account_of change ≡ 1 + i → i < length accounts
     → domains_shown new.slots ≡ placed text_cmp (domains_shown (account_at accounts i).slots) (domain_of change) (items_after (found text_cmp (domains_shown (account_at accounts i).slots) (domain_of change)) change)
-    → accounts_shown (set accounts i new) ≡ after (accounts_shown accounts) change
+    → accounts_shown (set accounts i new) ≡ after_change (accounts_shown accounts) change
 change_shown accounts i new change e lt made =
     let ds = domains_shown (account_at accounts i).slots in
     let d = domain_of change in

@@ -5,7 +5,7 @@ use Rattle.std.specs.Bound.{bound_map}
 use Rattle.std.specs.BTreeMap.Range.{range_contains}
 use Rattle.std.specs.declared.ops.Bound.TheVariants.{Unbounded}
 use Rattle.sdb_base.specs.Texts.{text_cmp}
-use Rattle.sdb_pairs.proofs.KeyLemmas.{by_bool}
+use Rattle.sdb_base.proofs.Cases.{by_bool}
 use Rattle.sdb_domain.specs.Keyed.{with_shown, seen, bound_after}
 use Rattle.sdb_domain.specs.LookUps.{entries_after, least_after}
 

@@ -9,10 +9,9 @@ use Rattle.std.proofs.lemmas.List.Sums.{sum_by-cons}
 use Rattle.std.proofs.lemmas.Map.Lookups.{exact_bytes}
 use Rattle.std.proofs.lemmas.Map.Steps.{set_value_same}
 use Rattle.sdb_base.specs.Texts.{text_cmp}
-use Rattle.sdb_pairs.specs.Entries.{found, placed, IsRising}
-use Rattle.sdb_pairs.proofs.KeyLemmas.{by_bool}
-use Rattle.sdb_pairs.proofs.EntryLemmas.{found-insert, found-placed, rising-placed}
-use Rattle.sdb_pairs.proofs.AgreeLemmas.{same_entries}
+use Rattle.sdb_base.specs.Entries.{found, placed, IsRising}
+use Rattle.sdb_base.proofs.Cases.{by_bool}
+use Rattle.sdb_base.proofs.EntryLemmas.{found-insert, found-placed, rising-placed, same_entries}
 use Rattle.sdb_domain.specs.Keyed.{with_shown, seen}
 use Rattle.sdb_domain.proofs.EntryViews.{none_past, insert_there, some_same}
 

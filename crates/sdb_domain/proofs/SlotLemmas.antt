@@ -9,16 +9,16 @@ use Rattle.sdb_base.specs.Texts.{text_cmp}
 use Rattle.sdb_pairs.specs.declared.op.Op.{Op}
 use Rattle.sdb_pairs.specs.Accounts.{ItemEntries, pairs_at}
 use Rattle.sdb_pairs.specs.Changes.{edited}
-use Rattle.sdb_pairs.specs.Entries.{found, placed, IsRising}
+use Rattle.sdb_base.specs.Entries.{found, placed, IsRising}
 use Rattle.sdb_pairs.specs.Pairs.{merged}
-use Rattle.sdb_pairs.proofs.EntryLemmas.{found-insert, found-placed, rising-placed}
+use Rattle.sdb_base.proofs.EntryLemmas.{found-insert, found-placed, rising-placed}
 use Rattle.sdb_domain.specs.declared.slot.Slot.{Slot}
 use Rattle.sdb_domain.specs.declared.slot.Slot.TheVariants.{Settled, Open, Dropped}
 use Rattle.sdb_domain.specs.declared.slot.Step.TheVariants.{Same, Slot as SlotWas, Row}
 use Rattle.sdb_domain.specs.declared.held.RowWas.{RowWas}
 use Rattle.sdb_domain.specs.Held.{Kept, items_kept, IsWhole, with_row, nothing_kept}
 use Rattle.sdb_domain.specs.Slots.{Slots, shown, domains_shown, IsSettled}
-use Rattle.sdb_domain.specs.Steps.{Steps, Settles, closed, step_undone, row_step_undone, CanUndoRow}
+use Rattle.sdb_domain.specs.Steps.{StepsTo, Settles, closed, step_undone, row_step_undone, CanUndoRow}
 use Rattle.sdb_domain.specs.Undo.{row_undone}
 use Rattle.sdb_domain.proofs.EntryViews.{back_inserted, set_absent, set_again, insert_there, remove_absent}
 use Rattle.sdb_domain.proofs.ItemSums.{edited_kept}
@@ -38,7 +38,7 @@ module _ (old : Slots) (name : List ℕ) (s : IsRising text_cmp old) where
   found_here : (slot : Slot) → found text_cmp (insert_entry text_cmp old name slot) name ≡ Some slot
   found_here slot = found-insert nat_list_cmp_total old name name slot ∙ ap (λ r. cond (is_eq r) (Some slot) (found text_cmp old name)) (tied_itself nat_list_cmp_total name)
 
-  pub put_steps : (slot : Slot) (was : Option Slot) → was ≡ found text_cmp old name → Steps old (insert_entry text_cmp old name slot) name (shown slot) (SlotWas was)
+  pub put_steps : (slot : Slot) (was : Option Slot) → was ≡ found text_cmp old name → StepsTo old (insert_entry text_cmp old name slot) name (shown slot) (SlotWas was)
   put_steps slot was e = record {
     made = seen-put shown old name slot s;
     taken_back = back_inserted old name s slot was e;
@@ -46,7 +46,7 @@ module _ (old : Slots) (name : List ℕ) (s : IsRising text_cmp old) where
     others = found_others slot;
   }
 
-  pub same_steps : (items : ItemEntries) → found text_cmp (domains_shown old) name ≡ Some items → Steps old old name (Some items) Same
+  pub same_steps : (items : ItemEntries) → found text_cmp (domains_shown old) name ≡ Some items → StepsTo old old name (Some items) Same
   same_steps items h = record {
     made = sym (place_same (domains_shown old) name items (rising-seen shown old s) h);
     taken_back = refl;
@@ -54,23 +54,23 @@ module _ (old : Slots) (name : List ℕ) (s : IsRising text_cmp old) where
     others = λ q off. refl;
   }
 
-  pub drop_steps : (was : Option Slot) → was ≡ found text_cmp old name → Steps old (set_value (is_at (text_cmp name)) old Dropped) name None (SlotWas was)
+  pub drop_steps : (was : Option Slot) → was ≡ found text_cmp old name → StepsTo old (set_value (is_at (text_cmp name)) old Dropped) name None (SlotWas was)
   drop_steps None e =
       let absent : found text_cmp (domains_shown old) name ≡ None = found_shown name None e in
       let same : set_value (is_at (text_cmp name)) old Dropped ≡ old = set_absent (is_at (text_cmp name)) old Dropped (sym e) in
-      subst (λ new. Steps old new name None (SlotWas None)) (sym same) (record {
+      subst (λ new. StepsTo old new name None (SlotWas None)) (sym same) (record {
         made = sym (remove_absent (is_at (text_cmp name)) (domains_shown old) absent);
         taken_back = remove_absent (is_at (text_cmp name)) old (sym e);
         can = tt;
         others = λ q off. refl;
       })
   drop_steps (Some slot) e =
-      subst (λ new. Steps old new name None (SlotWas (Some slot))) (insert_there nat_list_cmp_total old name Dropped slot s (sym e)) (put_steps Dropped (Some slot) e)
+      subst (λ new. StepsTo old new name None (SlotWas (Some slot))) (insert_there nat_list_cmp_total old name Dropped slot s (sym e)) (put_steps Dropped (Some slot) e)
 
   pub new_steps : (item : List ℕ) (ops : List Op) (kept : Kept) (was : Option Slot) → kept ≡ with_row nothing_kept item (merged [] ops) → IsRising text_cmp nothing_kept.rows → was ≡ found text_cmp old name
-      → Steps old (insert_entry text_cmp old name (Open kept)) name (Some (edited [] item ops)) (SlotWas was)
+      → StepsTo old (insert_entry text_cmp old name (Open kept)) name (Some (edited [] item ops)) (SlotWas was)
   new_steps item ops kept was e r w =
-      subst (λ items. Steps old (insert_entry text_cmp old name (Open kept)) name (Some items) (SlotWas was)) (ap items_kept e ∙ edited_kept nothing_kept item ops r) (put_steps (Open kept) was w)
+      subst (λ items. StepsTo old (insert_entry text_cmp old name (Open kept)) name (Some items) (SlotWas was)) (ap items_kept e ∙ edited_kept nothing_kept item ops r) (put_steps (Open kept) was w)
 
   module _ (kept new : Kept) (settled : Bool) (was : RowWas) (item : List ℕ) (ops : List Op) (there : found text_cmp old name ≡ Some (closed settled kept))
       (is : new ≡ with_row kept item (merged (pairs_at kept.rows item) ops)) (whole : IsWhole kept) (undone : row_undone new was ≡ kept) where
@@ -95,14 +95,14 @@ module _ (old : Slots) (name : List ℕ) (s : IsRising text_cmp old) where
     unfolding after
     row_can = subst (CanUndoRow was) (sym (found_here (Open new))) (subst IsWhole (sym undone) whole)
 
-    row_steps_put : Steps old after name (Some (edited (unwrap_or (found text_cmp (domains_shown old) name) []) item ops)) (Row settled was)
+    row_steps_put : StepsTo old after name (Some (edited (unwrap_or (found text_cmp (domains_shown old) name) []) item ops)) (Row settled was)
     unfolding after
     row_steps_put = record { made = row_made; taken_back = row_back; can = row_can; others = found_others (Open new) }
 
-    pub row_steps : Steps old (set_value (is_at (text_cmp name)) (set_value (is_at (text_cmp name)) old Dropped) (Open new)) name (Some (edited (unwrap_or (found text_cmp (domains_shown old) name) []) item ops)) (Row settled was)
+    pub row_steps : StepsTo old (set_value (is_at (text_cmp name)) (set_value (is_at (text_cmp name)) old Dropped) (Open new)) name (Some (edited (unwrap_or (found text_cmp (domains_shown old) name) []) item ops)) (Row settled was)
     unfolding after
     row_steps =
-        subst (λ slots. Steps old slots name (Some (edited (unwrap_or (found text_cmp (domains_shown old) name) []) item ops)) (Row settled was))
+        subst (λ slots. StepsTo old slots name (Some (edited (unwrap_or (found text_cmp (domains_shown old) name) []) item ops)) (Row settled was))
         (insert_there nat_list_cmp_total old name (Open new) (closed settled kept) s there ∙ sym (set_again (is_at (text_cmp name)) old Dropped (Open new)))
         row_steps_put
 
@@ -117,17 +117,17 @@ none_given None h = refl
 none_given (Some items) h = absurd (true≢false h)
 
 pub live_steps : (old : Slots) (name : List ℕ) → IsRising text_cmp old → is_some (found text_cmp (domains_shown old) name) ≡ true
-    → Steps old old name (Some (unwrap_or (found text_cmp (domains_shown old) name) [])) Same
+    → StepsTo old old name (Some (unwrap_or (found text_cmp (domains_shown old) name) [])) Same
 live_steps old name s live = same_steps old name s (unwrap_or (found text_cmp (domains_shown old) name) []) (some_given (found text_cmp (domains_shown old) name) live)
 
 pub make_steps : (old : Slots) (name key : List ℕ) (kept : Kept) (new : Slots) (was : Option Slot) → IsRising text_cmp old → is_some (found text_cmp (domains_shown old) name) ≡ false
     → key ≡ name → kept ≡ nothing_kept → new ≡ insert_entry text_cmp old key (Open kept) → was ≡ found text_cmp old key
-    → Steps old new name (Some (unwrap_or (found text_cmp (domains_shown old) name) [])) (SlotWas was)
+    → StepsTo old new name (Some (unwrap_or (found text_cmp (domains_shown old) name) [])) (SlotWas was)
 make_steps old name key kept new was s dead key_is kept_is new_is was_is =
     let made : new ≡ insert_entry text_cmp old name (Open nothing_kept) = new_is ∙ (λ i. insert_entry text_cmp old (key_is i) (Open (kept_is i))) in
     let none : unwrap_or (found text_cmp (domains_shown old) name) [] ≡ [] = ap (λ o. unwrap_or o []) (none_given (found text_cmp (domains_shown old) name) dead) in
-    subst (λ n. Steps old n name (Some (unwrap_or (found text_cmp (domains_shown old) name) [])) (SlotWas was)) (sym made)
-    (subst (λ l. Steps old (insert_entry text_cmp old name (Open nothing_kept)) name (Some l) (SlotWas was)) (sym none)
+    subst (λ n. StepsTo old n name (Some (unwrap_or (found text_cmp (domains_shown old) name) [])) (SlotWas was)) (sym made)
+    (subst (λ l. StepsTo old (insert_entry text_cmp old name (Open nothing_kept)) name (Some l) (SlotWas was)) (sym none)
     (put_steps old name s (Open nothing_kept) was (was_is ∙ ap (found text_cmp old) key_is)))
 
 none_rises : IsRising text_cmp nothing_kept.rows
@@ -136,11 +136,11 @@ none_rises = tt
 
 pub new_made : (old : Slots) (name key item : List ℕ) (ops : List Op) (first kept : Kept) (new : Slots) (was : Option Slot) → IsRising text_cmp old
     → key ≡ name → first ≡ nothing_kept → kept ≡ with_row first item (merged (pairs_at first.rows item) ops) → new ≡ insert_entry text_cmp old key (Open kept) → was ≡ found text_cmp old key
-    → Steps old new name (Some (edited [] item ops)) (SlotWas was)
+    → StepsTo old new name (Some (edited [] item ops)) (SlotWas was)
 new_made old name key item ops first kept new was s key_is first_is kept_is new_is was_is =
     let made : new ≡ insert_entry text_cmp old name (Open kept) = new_is ∙ ap (λ k. insert_entry text_cmp old k (Open kept)) key_is in
     let row : kept ≡ with_row nothing_kept item (merged [] ops) = kept_is ∙ ap (λ (k : Kept). with_row k item (merged (pairs_at k.rows item) ops)) first_is in
-    subst (λ n. Steps old n name (Some (edited [] item ops)) (SlotWas was)) (sym made) (new_steps old name s item ops kept was row none_rises (was_is ∙ ap (found text_cmp old) key_is))
+    subst (λ n. StepsTo old n name (Some (edited [] item ops)) (SlotWas was)) (sym made) (new_steps old name s item ops kept was row none_rises (was_is ∙ ap (found text_cmp old) key_is))
 
 pub put_back : (old : Slots) (name : List ℕ) (slot : Slot) (new : Slots) → Some slot ≡ found text_cmp old name
     → new ≡ set_value (is_at (text_cmp name)) (set_value (is_at (text_cmp name)) old Dropped) slot → new ≡ old

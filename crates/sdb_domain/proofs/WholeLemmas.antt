@@ -11,11 +11,10 @@ use Rattle.sdb_base.specs.Texts.{text_cmp}
 use Rattle.sdb_pairs.specs.declared.pair.Pair.{Pair}
 use Rattle.sdb_pairs.specs.declared.op.Op.{Op}
 use Rattle.sdb_pairs.specs.Accounts.{ItemEntries, pairs_at}
-use Rattle.sdb_pairs.specs.Entries.{found, IsRising}
+use Rattle.sdb_base.specs.Entries.{found, IsRising}
 use Rattle.sdb_pairs.specs.Pairs.{is_named, merged}
-use Rattle.sdb_pairs.proofs.KeyLemmas.{by_bool}
-use Rattle.sdb_pairs.proofs.EntryLemmas.{found-insert, found-placed, rising-placed}
-use Rattle.sdb_pairs.proofs.StateLemmas.{key_at}
+use Rattle.sdb_base.proofs.Cases.{by_bool}
+use Rattle.sdb_base.proofs.EntryLemmas.{found-insert, found-placed, rising-placed, key_at}
 use Rattle.sdb_domain.specs.declared.sums.Sums.{Sums}
 use Rattle.sdb_domain.specs.Held.{NameCounts, count_of, raised, lowered, recounted, Kept, with_row, IsWhole, IsSwept, same, gone}
 use Rattle.sdb_domain.specs.Sums.{row_sums, exchanged}

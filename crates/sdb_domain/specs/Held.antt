@@ -7,7 +7,7 @@ use Rattle.sdb_base.specs.Texts.{text_cmp}
 use Rattle.sdb_pairs.specs.declared.pair.Pair.{Pair}
 use Rattle.sdb_pairs.specs.Accounts.{ItemEntries, pairs_at}
 use Rattle.sdb_pairs.specs.Changes.{item_with}
-use Rattle.sdb_pairs.specs.Entries.{found, IsRising}
+use Rattle.sdb_base.specs.Entries.{found, IsRising}
 use Rattle.sdb_pairs.specs.Pairs.{is_named}
 use Rattle.sdb_domain.specs.declared.names.NameWas.{NameWas}
 use Rattle.sdb_domain.specs.declared.sums.Sums.{Sums}

@@ -3,7 +3,7 @@ use Rattle.std.specs.Prelude.{ℕ, List, Option, None, Some, filter, slice_get, 
 use Rattle.std.specs.Ordering.{is_lt}
 use Rattle.sdb_base.specs.Texts.{text_cmp}
 use Rattle.sdb_pairs.specs.Accounts.{ItemEntries, DomainEntries}
-use Rattle.sdb_pairs.specs.Entries.{found}
+use Rattle.sdb_base.specs.Entries.{found}
 use Rattle.sdb_domain.specs.Weights.{domains_of}
 
 -- the entries whose keys are above the given one

@@ -8,7 +8,7 @@ use Rattle.sdb_pairs.specs.declared.change.Change.{Change}
 use Rattle.sdb_pairs.specs.declared.change.Change.TheVariants.{MakeDomain, DropDomain, Edit}
 use Rattle.sdb_pairs.specs.Accounts.{ItemEntries}
 use Rattle.sdb_pairs.specs.Changes.{edited}
-use Rattle.sdb_pairs.specs.Entries.{found, placed, IsRising}
+use Rattle.sdb_base.specs.Entries.{found, placed, IsRising}
 use Rattle.sdb_domain.specs.declared.slot.Slot.{Slot}
 use Rattle.sdb_domain.specs.declared.slot.Slot.TheVariants.{Settled, Open, Dropped}
 use Rattle.sdb_domain.specs.declared.slot.Step.{Step}
@@ -68,7 +68,7 @@ CanUndoStep slots name (SlotWas was) = Unit {0}
 CanUndoStep slots name (Row settled was) = CanUndoRow was (found text_cmp slots name)
 
 -- what a step on the slots does: under the name that stands for the domain, and nowhere else
-pub record Steps (old new : Slots) (name : List ℕ) (items : Option ItemEntries) (step : Step) : Type 0 where
+pub record StepsTo (old new : Slots) (name : List ℕ) (items : Option ItemEntries) (step : Step) : Type 0 where
   pub made : domains_shown new ≡ placed text_cmp (domains_shown old) name items
   pub taken_back : step_undone new name step ≡ old
   pub can : CanUndoStep new name step

@@ -4,9 +4,9 @@ ghost use Rattle.std.specs.Option.{option_copied};
 ghost use Rattle.sdb_domain.specs.LookUps.{least_after};
 ghost use Rattle.std.specs.BTreeMap.{is_at};
 ghost use Rattle.sdb_base.specs.Texts.{text_cmp};
-ghost use Rattle.sdb_pairs.specs.Entries.{found, IsRising};
+ghost use Rattle.sdb_base.specs.Entries.{found, IsRising};
 ghost use Rattle.sdb_domain.specs.Slots.{domains_shown, shown, count_shown, weight_shown, weight_of_domain, IsSettled};
-ghost use Rattle.sdb_domain.specs.Steps.{account_of, domain_of, items_after, Steps as StepsTo, Settles};
+ghost use Rattle.sdb_domain.specs.Steps.{account_of, domain_of, items_after, StepsTo, Settles};
 ghost use Rattle.sdb_domain.specs.Weights.{domain_weight};
 
 use crate::domain::Domain;

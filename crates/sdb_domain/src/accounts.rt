@@ -1,7 +1,7 @@
 ghost use Rattle.std.specs.Prelude.{◌≡◌, ◌-◌, ◌≤◌, ◌<◌, ◌+◌, OnOk, OnErr, option_map, length, List, [], ◌∷◌, ℕ, replicate};
 ghost use Rattle.std.specs.Option.{option_copied};
 ghost use Rattle.sdb_pairs.specs.Accounts.{AreAccounts, items_of};
-ghost use Rattle.sdb_pairs.specs.Changes.{after, state};
+ghost use Rattle.sdb_pairs.specs.Changes.{after_change, state};
 ghost use Rattle.sdb_domain.specs.LookUps.{name_after};
 ghost use Rattle.sdb_domain.specs.Weights.{domains_of, account_weight};
 
@@ -140,7 +140,7 @@ fn step(
     log: &mut Vec<Undo>,
 ) -> Result<(), OutOfMemory>
     requires { length accounts.old ≡ 16 }
-    ensures ok { OnOk result (accounts_shown accounts.new ≡ after (accounts_shown accounts.old) change.now) }
+    ensures ok { OnOk result (accounts_shown accounts.new ≡ after_change (accounts_shown accounts.old) change.now) }
     ensures logs { Logs accounts.old log.old.items accounts.new log.new.items }
 {
     log.reserve(1)?;

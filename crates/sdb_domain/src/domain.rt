@@ -2,7 +2,7 @@ ghost use Rattle.std.specs.Prelude.{◌≡◌, ◌+◌, option_map, length, List
 ghost use Rattle.sdb_pairs.specs.declared.pair.Pair.{Pair};
 ghost use Rattle.std.specs.Option.{option_copied};
 ghost use Rattle.sdb_base.specs.Texts.{text_cmp};
-ghost use Rattle.sdb_pairs.specs.Entries.{found};
+ghost use Rattle.sdb_base.specs.Entries.{found};
 ghost use Rattle.sdb_domain.specs.Held.{items_kept};
 ghost use Rattle.sdb_domain.specs.LookUps.{least_after, held_text};
 ghost use Rattle.sdb_domain.specs.Metadata.{Describes};

@@ -4,7 +4,7 @@ ghost use Rattle.std.specs.Option.{option_copied};
 ghost use Rattle.sdb_domain.specs.LookUps.{least_after, held_text};
 ghost use Rattle.sdb_domain.specs.Weights.{domain_weight};
 ghost use Rattle.sdb_base.specs.Texts.{text_cmp};
-ghost use Rattle.sdb_pairs.specs.Entries.{found};
+ghost use Rattle.sdb_base.specs.Entries.{found};
 ghost use Rattle.sdb_pairs.specs.Changes.{item_with};
 ghost use Rattle.sdb_pairs.specs.Accounts.{pairs_at};
 ghost use Rattle.sdb_pairs.specs.Pairs.{merged};

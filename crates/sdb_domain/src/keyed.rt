@@ -3,7 +3,7 @@ ghost use Rattle.std.specs.Option.{option_copied};
 ghost use Rattle.std.specs.Map.{remove_entry, set_value};
 ghost use Rattle.std.specs.BTreeMap.{is_at, insert_entry};
 ghost use Rattle.sdb_base.specs.Texts.{text_cmp};
-ghost use Rattle.sdb_pairs.specs.Entries.{found, IsRising};
+ghost use Rattle.sdb_base.specs.Entries.{found, IsRising};
 ghost use Rattle.sdb_domain.specs.Keyed.{back, bound_after};
 ghost use Rattle.sdb_domain.specs.LookUps.{entries_after};
 
@@ -25,7 +25,7 @@ impl<V> Model for Keyed<V> {
     ghost use Rattle.std.specs.Prelude.{List, ℕ};
     ghost use Rattle.std.specs.Coded.{coded_list, coded×, coded_ℕ};
     ghost use Rattle.sdb_base.specs.Texts.{text_cmp};
-    ghost use Rattle.sdb_pairs.specs.Entries.{IsRising};
+    ghost use Rattle.sdb_base.specs.Entries.{IsRising};
 
     ghost Value = { List (List ℕ × V) };
 

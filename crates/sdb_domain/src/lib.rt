@@ -6,6 +6,7 @@ mod accounts;
 mod domain;
 mod held;
 mod keyed;
+mod laws;
 mod metadata;
 mod names;
 mod slot;
@@ -13,6 +14,7 @@ mod sums;
 
 pub use accounts::Accounts;
 pub use domain::Domain;
+pub use laws::walks_give_all;
 pub use metadata::Metadata;
 
 #[cfg(test)]

@@ -3,7 +3,7 @@ ghost use Rattle.std.specs.BTreeMap.{insert_entry};
 ghost use Rattle.std.specs.List.{sum_by};
 ghost use Rattle.std.specs.List.Sorted.{IsStrictlySortedBy};
 ghost use Rattle.sdb_base.specs.Texts.{text_cmp};
-ghost use Rattle.sdb_pairs.specs.Entries.{IsRising};
+ghost use Rattle.sdb_base.specs.Entries.{IsRising};
 
 use crate::keyed::Keyed;
 use sdb_base::{OutOfMemory, Text};

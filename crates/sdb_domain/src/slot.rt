@@ -1,10 +1,10 @@
 ghost use Rattle.std.specs.Prelude.{◌≡◌, ◌<◌, IfOk, OnErr, Some, None, unwrap_or, is_some, IsSome, IsOk, []};
 ghost use Rattle.sdb_base.specs.Texts.{text_cmp};
 ghost use Rattle.sdb_pairs.specs.Changes.{edited};
-ghost use Rattle.sdb_pairs.specs.Entries.{found, IsRising};
+ghost use Rattle.sdb_base.specs.Entries.{found, IsRising};
 ghost use Rattle.sdb_domain.specs.Held.{items_kept};
 ghost use Rattle.sdb_domain.specs.Slots.{shown, domains_shown};
-ghost use Rattle.sdb_domain.specs.Steps.{closed, step_undone, CanUndoStep, CanUndoRow, row_step_undone, Steps as StepsTo, Settles};
+ghost use Rattle.sdb_domain.specs.Steps.{closed, step_undone, CanUndoStep, CanUndoRow, row_step_undone, StepsTo, Settles};
 
 use crate::domain::Domain;
 use crate::held::{Held, RowWas};

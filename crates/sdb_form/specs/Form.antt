@@ -3,20 +3,9 @@ use Rattle.std.specs.Prelude.{◌≡◌, ◌≢◌, ℕ, ◌+◌, ◌*◌, ◌<�
 use Rattle.std.specs.List.{AllZip}
 use Rattle.std.specs.Map.{keys_of}
 use Rattle.std.specs.Char.{digit_value, is_digit}
+use Rattle.sdb_base.specs.Ascii.{percent, plus, space}
 use Rattle.sdb_base.specs.Pairs.{HasDistinctNames}
 use Rattle.form_urlencoded.specs.Form.{raw_pairs}
-
--- `b'%'`
-abbrev pub percent : ℕ
-percent = 37
-
--- `b'+'`
-abbrev pub plus : ℕ
-plus = 43
-
--- `b' '`
-abbrev pub space : ℕ
-space = 32
 
 -- a `%` and two hexadecimal digits stand at the front
 abbrev pub begins_escape : List ℕ → Bool

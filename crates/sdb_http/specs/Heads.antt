@@ -6,6 +6,7 @@ use Rattle.std.specs.Str.{bytes_eq, str_eq_ignore_ascii_case}
 use Rattle.httparse.specs.Grammar.{RequestHead, ReadsRequest, trim_ows}
 use Rattle.httparse.specs.Spans.{name_and_value}
 use Rattle.sdb_base.specs.Decimal.{value_after}
+use Rattle.sdb_base.specs.Results.{◌>>=◌}
 use Rattle.sdb_base.specs.declared.verb.Verb.{Verb}
 use Rattle.sdb_base.specs.declared.verb.Verb.TheVariants.{Get, Post}
 use Rattle.sdb_http.specs.declared.fault.HttpFault.{HttpFault}
@@ -65,11 +66,6 @@ same_name a b = str_eq_ignore_ascii_case a b
 -- the values of the header lines of that name, whatever its case
 abbrev pub values_of : List ℕ → HeaderFields → List (List ℕ)
 values_of name fields = map (λ f. f.1) (filter (λ f. same_name name f.0) fields)
-
-infixl 10 ◌>>=◌
-abbrev pub ◌>>=◌ : {A B : Type 0} → Result A HttpFault → (A → Result B HttpFault) → Result B HttpFault
-(Ok x) >>= f = f x
-(Err e) >>= f = Err e
 
 -- the value is there once
 abbrev pub only : List (List ℕ) → Result (List ℕ) HttpFault

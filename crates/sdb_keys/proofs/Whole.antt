@@ -17,7 +17,8 @@ use Rattle.sdb_keys.specs.Answer.{IsAnswer}
 use Rattle.sdb_keys.specs.File.{is_skipped, SpellsKey, AreKeys, AreRight, StandsAt, IsBadLine, IsDoubled, IsOneTooMany}
 use Rattle.sdb_keys.specs.File.AreKeys.{none, skipped, spelled}
 use Rattle.sdb_keys.specs.Keys.{find_key, ids_of, is_known}
-use Rattle.sdb_keys.specs.Reading.{Answer, key_of, with_key, with_line, and_then, with_lines, IsFaultOf}
+use Rattle.sdb_base.specs.Results.{and_then}
+use Rattle.sdb_keys.specs.Reading.{Answer, key_of, with_key, with_line, with_lines, IsFaultOf}
 use Rattle.sdb_keys.proofs.Words.{key_sound, key_complete, is_some-find_key}
 
 -- ---- one line

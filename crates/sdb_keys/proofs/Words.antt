@@ -16,7 +16,8 @@ use Rattle.sdb_keys.specs.declared.keys.Key.{Key}
 use Rattle.sdb_keys.specs.File.{is_word, is_secret_byte, SpellsKey}
 use Rattle.sdb_keys.specs.Keys.{find_key, is_known}
 use Rattle.sdb_keys.specs.Reading.{is_space, split_at_space, account_of, words_of, key_of}
-use Rattle.sdb_keys.proofs.Options.{on_some, on_guard, on_other, on_none, both}
+use Rattle.sdb_base.proofs.Cases.{both}
+use Rattle.sdb_base.proofs.OptionLemmas.{on_some, on_guard, on_other, on_none}
 
 -- ---- spaces
 

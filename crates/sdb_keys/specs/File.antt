@@ -4,6 +4,7 @@ use Rattle.std.specs.Char.{is_ascii_alphanumeric}
 use Rattle.std.specs.List.{IsDistinct, list_all}
 use Rattle.std.specs.Str.{bytes_eq}
 use Rattle.bstr.specs.Text.{lines_of, without_terminator}
+use Rattle.sdb_base.specs.Ascii.{space, hash_sign}
 use Rattle.sdb_base.specs.Decimal.{decimal_of}
 use Rattle.sdb_keys.specs.declared.keys.Key.{Key}
 use Rattle.sdb_keys.specs.Keys.{ids_of}
@@ -12,14 +13,6 @@ use Rattle.sdb_keys.specs.Keys.{ids_of}
 -- last line feed is a line too, and loses nothing.
 abbrev pub file_lines : List ℕ → List (List ℕ)
 file_lines text = map without_terminator (lines_of text)
-
--- `b' '`
-abbrev pub space : ℕ
-space = 32
-
--- `b'#'`
-abbrev pub hash_sign : ℕ
-hash_sign = 35
 
 -- empty lines and those that begin with `#` say nothing
 abbrev pub is_skipped : List ℕ → Bool

@@ -3,16 +3,14 @@ use Rattle.std.specs.Prelude.{◌≡◌, ℕ, ◌+◌, Bool, ◌&&◌, ◌==◌,
 use Rattle.std.specs.Char.{is_ascii_alphanumeric}
 use Rattle.std.specs.List.{before_first, after_first, position_or_len}
 use Rattle.sdb_base.specs.Decimal.{decimal_of}
+use Rattle.sdb_base.specs.Options.{◌>>=◌}
+use Rattle.sdb_base.specs.Results.{and_then}
 use Rattle.sdb_keys.specs.declared.keys.Key.{Key}
 use Rattle.sdb_keys.specs.declared.fault.KeyFault.{KeyFault}
 use Rattle.sdb_keys.specs.declared.fault.KeyFault.TheVariants as variant
-use Rattle.sdb_keys.specs.File.{space, is_word, is_secret_byte, is_skipped}
+use Rattle.sdb_base.specs.Ascii.{space}
+use Rattle.sdb_keys.specs.File.{is_word, is_secret_byte, is_skipped}
 use Rattle.sdb_keys.specs.Keys.{is_known}
-
-infixl 10 ◌>>=◌
-abbrev pub ◌>>=◌ : {A B : Type 0} → Option A → (A → Option B) → Option B
-None >>= f = None
-(Some x) >>= f = f x
 
 abbrev pub is_space : ℕ → Bool
 is_space b = b == space
@@ -60,10 +58,6 @@ with_key number keys (Some key) =
 unfoldable pub with_line : ℕ → List Key → List ℕ → Answer
 with_line number keys line =
     if is_skipped line then Ok keys else with_key number keys (key_of line)
-
-abbrev pub and_then : Answer → (List Key → Answer) → Answer
-and_then (Ok keys) next = next keys
-and_then (Err fault) next = Err fault
 
 -- the keys after lines
 unfoldable pub with_lines : ℕ → List Key → List (List ℕ) → Answer

@@ -3,13 +3,10 @@ use Rattle.std.proofs.Common.{◌≡◌, ℕ, suc, Bool, true, false, cond, not,
 use Rattle.std.proofs.lemmas.Bool.Decides.{nat_tests}
 use Rattle.std.specs.Char.{is_ascii_digit}
 use Rattle.std.specs.List.{list_all}
+use Rattle.sdb_base.proofs.Cases.{by_bool}
 use Rattle.sdb_lex.specs.Bytes.{blank, word, quote, sign, plain, order, comparing, begins, run}
 use Rattle.sdb_lex.specs.Fronts.{closing}
 use Rattle.sdb_lex.specs.Tokens.{doubled}
-
-pub by_bool : {P : Type 0} (b : Bool) → (b ≡ true → P) → (b ≡ false → P) → P
-by_bool true t f = t refl
-by_bool false t f = f refl
 
 -- a fact on a choice from facts on both sides
 pub choose : {X : Type 0} (P : X → Type 0) (b : Bool) (x y : X) → (b ≡ true → P x) → (b ≡ false → P y) → P (cond b x y)

@@ -13,9 +13,9 @@ use Rattle.sdb_pairs.specs.declared.op.Op.{Op}
 use Rattle.sdb_pairs.specs.declared.op.Op.TheVariants.{AddPair, DropName}
 use Rattle.sdb_pairs.specs.Laws.{part_op, del_ops}
 use Rattle.sdb_pairs.specs.Pairs.{pair_cmp, is_named, pair_eq, with_pair, after_op, merged, Put, is_replaced, put, Part, whole_name, one_pair, names_pair, del}
-use Rattle.sdb_pairs.proofs.KeyLemmas.{has, has-insert_key, same_members, rising-insert_key}
+use Rattle.sdb_base.proofs.KeyLemmas.{has, has-insert_key, same_members, rising-insert_key}
 use Rattle.sdb_pairs.proofs.PairLemmas.{pair_total, pair_exact, rising_filtered, rising_merged, rising_none}
-use Rattle.sdb_pairs.proofs.StateLemmas.{key_at}
+use Rattle.sdb_base.proofs.EntryLemmas.{key_at}
 
 -- whether the pair is there
 abbrev among : Pair → List Pair → Bool

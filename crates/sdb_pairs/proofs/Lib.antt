@@ -1,7 +1,6 @@
 pub mod AgreeLemmas
 pub mod EditLemmas
-pub mod EntryLemmas
-pub mod KeyLemmas
 pub mod PairLemmas
+pub mod RebuildLemmas
 pub mod SettleLemmas
 pub mod StateLemmas

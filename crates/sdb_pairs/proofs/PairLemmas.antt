@@ -1,6 +1,6 @@
 -- Pairs in their order, and what the edits of an item leave.
 use Rattle.std.proofs.Common.{◌≡◌, ℕ, ◌+◌, ◌-◌, ◌<◌, ◌≤◌, Bool, true, false, not, ◌&&◌, List, [], ◌∷◌, ◌++◌, length, get_or, take, drop, slice_range, Ordering, Less, Equal, Greater, refl, sym, ap, ◌∙◌, subst, ⊎_elim, arith, filter, is_eq, is_lt, is_gt, true≢false, length-drop, length-take, get_or-drop, get_or-take, drop-drop, take-append-drop}
-use Rattle.std.specs.Cmp.{IsTotalOrder}
+use Rattle.std.specs.Cmp.{IsTotalOrder, Equal-is}
 use Rattle.std.specs.Cmp.Lexicographic.{texts_ties}
 use Rattle.std.specs.Ordering.{ordering_index, ordering_then}
 use Rattle.std.specs.List.{AllByRecursion, HoldsAt, insert, remove, remove_range}
@@ -16,7 +16,8 @@ use Rattle.sdb_pairs.specs.declared.pair.Pair.{Pair}
 use Rattle.sdb_pairs.specs.declared.op.Op.{Op}
 use Rattle.sdb_pairs.specs.declared.op.Op.TheVariants.{AddPair, DropPair, DropName, DropAll}
 use Rattle.sdb_pairs.specs.Pairs.{pair_cmp, pair_eq, with_pair, is_named, part_named, after_op, merged}
-use Rattle.sdb_pairs.proofs.KeyLemmas.{insert_key-at, insert_key-there, rising-insert_key, searchable, filter-absent, filter-there, by_ordering, each_weaker, each_from_places, filter_all, filter_none, parted_front, parted_back}
+use Rattle.sdb_base.proofs.Cases.{by_ordering}
+use Rattle.sdb_base.proofs.KeyLemmas.{insert_key-at, insert_key-there, rising-insert_key, searchable, filter-absent, filter-there, each_weaker, each_from_places, filter_all, filter_none, parted_front, parted_back}
 
 pub pair_total : IsTotalOrder pair_cmp
 pair_total = then_total (on_total (λ (p : Pair). p.name) nat_list_cmp_total) (on_total (λ (p : Pair). p.value) nat_list_cmp_total)
@@ -61,11 +62,6 @@ less_found : (r : Ordering) → is_lt r ≡ true → r ≡ Less
 less_found Less e = refl
 less_found Equal e = absurd (true≢false (sym e))
 less_found Greater e = absurd (true≢false (sym e))
-
-equal_found : (r : Ordering) → is_eq r ≡ true → r ≡ Equal
-equal_found Less e = absurd (true≢false (sym e))
-equal_found Equal e = refl
-equal_found Greater e = absurd (true≢false (sym e))
 
 first_not_above : (r s : Ordering) → ordering_then r s ≡ Less → is_gt r ≡ false
 first_not_above Less s e = refl
@@ -121,7 +117,7 @@ module _ (name : List ℕ) where
           ⊎_elim
           (λ lt.
           let up : is_gt (text_cmp (get_or pairs (start + i) d).name (get_or pairs (start + j) d).name) ≡ false = not_above (start + i) (start + j) d (omega arith) (omega (arith, rest_length)) in
-          let at : text_cmp (get_or pairs (start + j) d).name name ≡ Equal = equal_found _ (sym (texts_ties _ name) ∙ subst (λ x. is_named name x ≡ true) (rest_at j d) passes) in
+          let at : text_cmp (get_or pairs (start + j) d).name name ≡ Equal = (Equal-is _).0 (sym (texts_ties _ name) ∙ subst (λ x. is_named name x ≡ true) (rest_at j d) passes) in
           let from : is_below (get_or pairs (start + i) d) ≡ false = named_here i d _ refl (omega arith) in
           subst (λ x. is_named name x ≡ true) (sym (rest_at i d)) (texts_ties _ name ∙ ap is_eq (still_equal _ _ name up at from)))
           (λ ge. let same : j ≡ i = omega arith in subst (λ k. is_named name (get_or rest k d) ≡ true) same passes)

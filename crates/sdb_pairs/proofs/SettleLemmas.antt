@@ -13,13 +13,14 @@ use Rattle.sdb_pairs.specs.declared.op.Op.TheVariants.{AddPair, DropPair, DropNa
 use Rattle.sdb_pairs.specs.declared.change.Change.{Change}
 use Rattle.sdb_pairs.specs.declared.change.Change.TheVariants.{MakeDomain, DropDomain, Edit}
 use Rattle.sdb_pairs.specs.Accounts.{DomainEntries, domain_cmp, items_of, has_domain, pairs_at, pairs_of, AreAccounts}
-use Rattle.sdb_pairs.specs.Changes.{edited, items_or_none, after, state}
+use Rattle.sdb_pairs.specs.Changes.{edited, items_or_none, after_change, state}
 use Rattle.sdb_pairs.specs.Laws.{Place, domain_at, item_at, AgreesAt}
 use Rattle.sdb_pairs.specs.Pairs.{pair_cmp, pair_eq, is_named, after_op, merged}
-use Rattle.sdb_pairs.proofs.KeyLemmas.{by_bool, has, has-insert_key, same_members}
-use Rattle.sdb_pairs.proofs.EntryLemmas.{found-placed}
+use Rattle.sdb_base.proofs.Cases.{by_bool}
+use Rattle.sdb_base.proofs.KeyLemmas.{has, has-insert_key, same_members}
+use Rattle.sdb_base.proofs.EntryLemmas.{found-placed, key_at}
 use Rattle.sdb_pairs.proofs.PairLemmas.{pair_total, pair_exact, rising_after_op, rising_merged, rising_none}
-use Rattle.sdb_pairs.proofs.StateLemmas.{domain_total, domain_exact, key_at, pairs_at-edited, pairs_at-rise, are_items, are_accounts_after}
+use Rattle.sdb_pairs.proofs.StateLemmas.{domain_total, domain_exact, pairs_at-edited, pairs_at-rise, are_items, are_accounts_after}
 use Rattle.std.proofs.lemmas.Map.Lookups.{exact_bytes}
 
 -- ---- tests that an edit leaves alone or settles
@@ -165,7 +166,7 @@ some_if : {X : Type 0} (b : Bool) (x y : Option X) → is_some (cond b x y) ≡ 
 some_if true x y = refl
 some_if false x y = refl
 
-has_domain-after : (accounts : DomainEntries) (change : Change) (a : ℕ) (d : List ℕ) → AreAccounts accounts → has_domain (after accounts change) a d ≡ there_after a d (has_domain accounts a d) change
+has_domain-after : (accounts : DomainEntries) (change : Change) (a : ℕ) (d : List ℕ) → AreAccounts accounts → has_domain (after_change accounts change) a d ≡ there_after a d (has_domain accounts a d) change
 has_domain-after accounts (MakeDomain account domain) a d h =
     let new = Some (items_or_none accounts account domain) in
     ap is_some (found-placed domain_total accounts (account, domain) (a, d) new h.rising) ∙ some_if (is_at (domain_cmp (a, d)) (account, domain)) new (items_of accounts a d)
@@ -178,7 +179,7 @@ has_domain-after accounts (Edit account domain item ops) a d h =
 has_domain-state : (accounts : DomainEntries) (changes : List Change) (a : ℕ) (d : List ℕ) → AreAccounts accounts → has_domain (state accounts changes) a d ≡ there_then a d (has_domain accounts a d) changes
 has_domain-state accounts [] a d h = refl
 has_domain-state accounts (c ∷ cs) a d h =
-    has_domain-state (after accounts c) cs a d (are_accounts_after accounts c h)
+    has_domain-state (after_change accounts c) cs a d (are_accounts_after accounts c h)
     ∙ ap (λ b. there_then a d b cs) (has_domain-after accounts c a d h)
 
 -- pairs under a choice of items
@@ -195,7 +196,7 @@ chosen_twice : {X : Type 0} (b c : Bool) (x y z : X) → (b ≡ true → y ≡ c
 chosen_twice true c x y z h = h refl
 chosen_twice false c x y z h = refl
 
-pairs_of-after : (accounts : DomainEntries) (change : Change) (a : ℕ) (d i : List ℕ) → AreAccounts accounts → pairs_of (after accounts change) a d i ≡ pairs_after a d i (pairs_of accounts a d i) change
+pairs_of-after : (accounts : DomainEntries) (change : Change) (a : ℕ) (d i : List ℕ) → AreAccounts accounts → pairs_of (after_change accounts change) a d i ≡ pairs_after a d i (pairs_of accounts a d i) change
 pairs_of-after accounts (MakeDomain account domain) a d i h =
     let items = items_or_none accounts account domain in
     let key : ℕ × List ℕ = (account, domain) in
@@ -227,7 +228,7 @@ pairs_of-after accounts (Edit account domain item ops) a d i h =
 pairs_of-state : (accounts : DomainEntries) (changes : List Change) (a : ℕ) (d i : List ℕ) → AreAccounts accounts → pairs_of (state accounts changes) a d i ≡ pairs_then a d i (pairs_of accounts a d i) changes
 pairs_of-state accounts [] a d i h = refl
 pairs_of-state accounts (c ∷ cs) a d i h =
-    pairs_of-state (after accounts c) cs a d i (are_accounts_after accounts c h)
+    pairs_of-state (after_change accounts c) cs a d i (are_accounts_after accounts c h)
     ∙ ap (λ ps. pairs_then a d i ps cs) (pairs_of-after accounts c a d i h)
 
 pub places_settle : (seen accounts : DomainEntries) (done more : List Change) (place : Place) → AreAccounts seen → AreAccounts accounts

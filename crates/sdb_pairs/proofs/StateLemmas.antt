@@ -1,5 +1,5 @@
 -- Changes keep accounts in order, and what a change leaves at each place.
-use Rattle.std.proofs.Common.{◌≡◌, ◌≢◌, ℕ, Bool, true, false, cond, List, [], ◌∷◌, Option, Some, None, Ordering, Less, Equal, Greater, refl, sym, ap, ◌∙◌, true≢false, is_eq, is_some, IfSome, unwrap_or, nat_cmp}
+use Rattle.std.proofs.Common.{◌≡◌, ℕ, Bool, true, false, cond, List, [], ◌∷◌, Option, Some, None, refl, ap, ◌∙◌, is_eq, is_some, IfSome, unwrap_or, nat_cmp}
 use Rattle.std.specs.Cmp.{IsTotalOrder}
 use Rattle.std.specs.BTreeMap.{is_at}
 use Rattle.std.specs.List.Sorted.{IsStrictlySortedBy}
@@ -13,12 +13,11 @@ use Rattle.sdb_pairs.specs.declared.op.Op.{Op}
 use Rattle.sdb_pairs.specs.declared.change.Change.{Change}
 use Rattle.sdb_pairs.specs.declared.change.Change.TheVariants.{MakeDomain, DropDomain, Edit}
 use Rattle.sdb_pairs.specs.Accounts.{ItemEntries, DomainEntries, domain_cmp, items_of, pairs_at, IsItem, AreItems, AreAccounts}
-use Rattle.sdb_pairs.specs.Changes.{item_with, edited, items_or_none, after, state}
-use Rattle.sdb_pairs.specs.Entries.{found, placed}
-use Rattle.sdb_pairs.specs.Laws.{EditLeaves}
+use Rattle.sdb_pairs.specs.Changes.{item_with, edited, items_or_none, after_change, state}
+use Rattle.sdb_base.specs.Entries.{found, placed}
+use Rattle.sdb_pairs.specs.Laws.{EditLeaves, MakeLeaves, DropLeaves}
 use Rattle.sdb_pairs.specs.Pairs.{pair_cmp, merged}
-use Rattle.sdb_pairs.proofs.KeyLemmas.{by_bool}
-use Rattle.sdb_pairs.proofs.EntryLemmas.{found-placed, rising-placed, values-placed}
+use Rattle.sdb_base.proofs.EntryLemmas.{found-placed, rising-placed, values-placed, elsewhere}
 use Rattle.sdb_pairs.proofs.PairLemmas.{rising_merged, rising_none}
 
 pub domain_total : IsTotalOrder domain_cmp
@@ -68,7 +67,7 @@ are_accounts_placed accounts key items h fits = record {
   each = values-placed domain_total AreItems accounts key items h.each fits;
 }
 
-pub are_accounts_after : (accounts : DomainEntries) (change : Change) → AreAccounts accounts → AreAccounts (after accounts change)
+pub are_accounts_after : (accounts : DomainEntries) (change : Change) → AreAccounts accounts → AreAccounts (after_change accounts change)
 are_accounts_after accounts (MakeDomain account domain) h = are_accounts_placed accounts (account, domain) (Some (items_or_none accounts account domain)) h (are_items accounts account domain h)
 are_accounts_after accounts (DropDomain account domain) h = are_accounts_placed accounts (account, domain) None h tt
 are_accounts_after accounts (Edit account domain item ops) h =
@@ -76,7 +75,7 @@ are_accounts_after accounts (Edit account domain item ops) h =
 
 pub are_accounts_state : (accounts : DomainEntries) (changes : List Change) → AreAccounts accounts → AreAccounts (state accounts changes)
 are_accounts_state accounts [] h = h
-are_accounts_state accounts (c ∷ cs) h = are_accounts_state (after accounts c) cs (are_accounts_after accounts c h)
+are_accounts_state accounts (c ∷ cs) h = are_accounts_state (after_change accounts c) cs (are_accounts_after accounts c h)
 
 -- ---- what an edit leaves
 
@@ -95,19 +94,7 @@ pairs_at-edited items name q ops h =
     ∙ unwrap-cond (is_at (text_cmp q) name) (item_with new) (found text_cmp items q) []
     ∙ ap (λ ps. cond (is_at (text_cmp q) name) ps (pairs_at items q)) (pairs_of_item_with new)
 
-module _ {K : Type 0} {cmp : K → K → Ordering} (exact : CmpEqualImpliesEq cmp) where
-  equal_at : (r : Ordering) → is_eq r ≡ true → r ≡ Equal
-  equal_at Less h = absurd (true≢false (sym h))
-  equal_at Equal h = refl
-  equal_at Greater h = absurd (true≢false (sym h))
-
-  pub key_at : (q k : K) → is_at (cmp q) k ≡ true → q ≡ k
-  key_at q k h = exact q k (equal_at (cmp q k) h)
-
-  pub elsewhere : (q k : K) → q ≢ k → is_at (cmp q) k ≡ false
-  elsewhere q k ne = by_bool (is_at (cmp q) k) (λ t. absurd (ne (key_at q k t))) (λ f. f)
-
-pub edit_leaves : (accounts : DomainEntries) (account : ℕ) (domain item : List ℕ) (ops : List Op) → AreAccounts accounts → EditLeaves accounts account domain item ops (after accounts (Edit account domain item ops))
+pub edit_leaves : (accounts : DomainEntries) (account : ℕ) (domain item : List ℕ) (ops : List Op) → AreAccounts accounts → EditLeaves accounts account domain item ops (after_change accounts (Edit account domain item ops))
 edit_leaves accounts account domain item ops h =
     let items = items_or_none accounts account domain in
     let new = edited items item ops in
@@ -120,4 +107,27 @@ edit_leaves accounts account domain item ops h =
       edited = ap (λ o. pairs_at (unwrap_or o []) item) here ∙ pairs_at-edited items item item ops given ∙ ap (λ r. cond (is_eq r) (merged (pairs_at items item) ops) (pairs_at items item)) (tied_itself nat_list_cmp_total item);
       other_items = λ other ne. ap (λ o. pairs_at (unwrap_or o []) other) here ∙ pairs_at-edited items item other ops given ∙ ap (λ b. cond b (merged (pairs_at items item) ops) (pairs_at items other)) (elsewhere exact_bytes other item ne);
       other_domains = λ other ne. at other ∙ ap (λ b. cond b (Some new) (found domain_cmp accounts other)) (elsewhere domain_exact other key ne);
+    }
+
+-- ---- what making and dropping a domain leave
+
+pub make_leaves : (accounts : DomainEntries) (account : ℕ) (domain : List ℕ) → AreAccounts accounts → MakeLeaves accounts account domain (after_change accounts (MakeDomain account domain))
+make_leaves accounts account domain h =
+    let items = items_or_none accounts account domain in
+    let key : ℕ × List ℕ = (account, domain) in
+    let at : (q : ℕ × List ℕ) → found domain_cmp (placed domain_cmp accounts key (Some items)) q ≡ cond (is_at (domain_cmp q) key) (Some items) (found domain_cmp accounts q) = λ q. found-placed domain_total accounts key q (Some items) h.rising in
+    let here : found domain_cmp (placed domain_cmp accounts key (Some items)) key ≡ Some items = at key ∙ ap (λ r. cond (is_eq r) (Some items) (found domain_cmp accounts key)) (tied_itself domain_total key) in
+    record {
+      made = ap is_some here;
+      same_items = ap (λ o. unwrap_or o []) here;
+      other_domains = λ other ne. at other ∙ ap (λ b. cond b (Some items) (found domain_cmp accounts other)) (elsewhere domain_exact other key ne);
+    }
+
+pub drop_leaves : (accounts : DomainEntries) (account : ℕ) (domain : List ℕ) → AreAccounts accounts → DropLeaves accounts account domain (after_change accounts (DropDomain account domain))
+drop_leaves accounts account domain h =
+    let key : ℕ × List ℕ = (account, domain) in
+    let at : (q : ℕ × List ℕ) → found domain_cmp (placed domain_cmp accounts key None) q ≡ cond (is_at (domain_cmp q) key) None (found domain_cmp accounts q) = λ q. found-placed domain_total accounts key q None h.rising in
+    record {
+      dropped = at key ∙ ap (λ r. cond (is_eq r) None (found domain_cmp accounts key)) (tied_itself domain_total key);
+      other_domains = λ other ne. at other ∙ ap (λ b. cond b None (found domain_cmp accounts other)) (elsewhere domain_exact other key ne);
     }

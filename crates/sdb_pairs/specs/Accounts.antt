@@ -6,7 +6,7 @@ use Rattle.std.specs.Map.{values_of}
 use Rattle.std.specs.List.Sorted.{IsStrictlySortedBy}
 use Rattle.sdb_base.specs.Texts.{text_cmp}
 use Rattle.sdb_pairs.specs.declared.pair.Pair.{Pair}
-use Rattle.sdb_pairs.specs.Entries.{found, IsRising}
+use Rattle.sdb_base.specs.Entries.{found, IsRising}
 use Rattle.sdb_pairs.specs.Pairs.{pair_cmp}
 
 -- item names with their pairs

@@ -1,14 +1,15 @@
 -- What holds of every list of changes.
-use Rattle.std.specs.Prelude.{◌≡◌, ◌≢◌, ℕ, true, List, ◌++◌, [], ◌∷◌, map, bytes_eq}
-use Rattle.std.specs.List.{list_any}
+use Rattle.std.specs.Prelude.{◌≡◌, ◌≢◌, ℕ, true, List, ◌++◌, [], ◌∷◌, map, bytes_eq, None, All}
+use Rattle.std.specs.List.{list_any, flat_map}
 use Rattle.std.specs.List.Sorted.{IsStrictlySortedBy}
 use Rattle.sdb_pairs.specs.declared.pair.Pair.{Pair}
 use Rattle.sdb_pairs.specs.declared.op.Op.TheVariants.{AddPair, DropPair, DropName, DropAll}
 use Rattle.sdb_pairs.specs.declared.op.Op.{Op}
 use Rattle.sdb_pairs.specs.declared.change.Change.{Change}
-use Rattle.sdb_pairs.specs.declared.change.Change.TheVariants.{Edit}
-use Rattle.sdb_pairs.specs.Accounts.{DomainEntries, AreAccounts, has_domain, items_of, pairs_of}
-use Rattle.sdb_pairs.specs.Changes.{after, state}
+use Rattle.sdb_pairs.specs.declared.change.Change.TheVariants.{MakeDomain, DropDomain, Edit}
+use Rattle.sdb_pairs.specs.Accounts.{ItemEntries, DomainEntries, AreAccounts, has_domain, items_of, pairs_of}
+use Rattle.sdb_pairs.specs.Changes.{items_or_none, after_change, state}
+use Rattle.sdb_pairs.specs.Lawful.{IsLawfulChange, AreLawfulAccounts}
 use Rattle.sdb_pairs.specs.Pairs.{pair_cmp, merged, Put, is_replaced, put, Part, whole_name, one_pair, del}
 
 -- accounts stay accounts, whatever changes are applied
@@ -27,7 +28,44 @@ pub record EditLeaves (accounts : DomainEntries) (account : ℕ) (domain item : 
   pub other_domains : (other : ℕ × List ℕ) → other ≢ (account, domain) → items_of new other.0 other.1 ≡ items_of accounts other.0 other.1
 
 abbrev pub EditChangesOneItem : Type 0
-EditChangesOneItem = (accounts : DomainEntries) (account : ℕ) (domain item : List ℕ) (ops : List Op) → AreAccounts accounts → EditLeaves accounts account domain item ops (after accounts (Edit account domain item ops))
+EditChangesOneItem = (accounts : DomainEntries) (account : ℕ) (domain item : List ℕ) (ops : List Op) → AreAccounts accounts → EditLeaves accounts account domain item ops (after_change accounts (Edit account domain item ops))
+
+-- what making a domain leaves: its items stay, and there are none where it wasn't there
+pub record MakeLeaves (accounts : DomainEntries) (account : ℕ) (domain : List ℕ) (new : DomainEntries) : Type 0 where
+  pub made : has_domain new account domain ≡ true
+  pub same_items : items_or_none new account domain ≡ items_or_none accounts account domain
+  pub other_domains : (other : ℕ × List ℕ) → other ≢ (account, domain) → items_of new other.0 other.1 ≡ items_of accounts other.0 other.1
+
+abbrev pub MakeChangesOneDomain : Type 0
+MakeChangesOneDomain = (accounts : DomainEntries) (account : ℕ) (domain : List ℕ) → AreAccounts accounts → MakeLeaves accounts account domain (after_change accounts (MakeDomain account domain))
+
+-- what dropping a domain leaves
+pub record DropLeaves (accounts : DomainEntries) (account : ℕ) (domain : List ℕ) (new : DomainEntries) : Type 0 where
+  pub dropped : items_of new account domain ≡ None
+  pub other_domains : (other : ℕ × List ℕ) → other ≢ (account, domain) → items_of new other.0 other.1 ≡ items_of accounts other.0 other.1
+
+abbrev pub DropChangesOneDomain : Type 0
+DropChangesOneDomain = (accounts : DomainEntries) (account : ℕ) (domain : List ℕ) → AreAccounts accounts → DropLeaves accounts account domain (after_change accounts (DropDomain account domain))
+
+-- the edit that adds an item's pairs
+abbrev pub item_change : ℕ → List ℕ → List ℕ × List Pair → Change
+item_change account domain item = Edit account domain item.0 (map AddPair item.1)
+
+-- a domain is made, and then each of its items is added
+abbrev pub domain_changes : (ℕ × List ℕ) × ItemEntries → List Change
+domain_changes domain = MakeDomain domain.0.0 domain.0.1 ∷ map (item_change domain.0.0 domain.0.1) domain.1
+
+-- the changes that make the accounts: those of each domain, in order
+abbrev pub own_changes : DomainEntries → List Change
+own_changes accounts = flat_map domain_changes accounts
+
+-- accounts are rebuilt from their own changes
+abbrev pub OwnChangesRebuild : Type 0
+OwnChangesRebuild = (accounts : DomainEntries) → AreAccounts accounts → state [] (own_changes accounts) ≡ accounts
+
+-- the own changes of lawful accounts are lawful
+abbrev pub OwnChangesAreLawful : Type 0
+OwnChangesAreLawful = (accounts : DomainEntries) → AreLawfulAccounts accounts → All IsLawfulChange (own_changes accounts)
 
 -- one place of the accounts: whether a domain is there, or the pairs of an item
 pub data Place : Type 0 where

@@ -1,6 +1,7 @@
 pub mod Accounts
+pub mod Additions
 pub mod Changes
-pub mod Entries
 pub mod Laws
 pub mod Lawful
 pub mod Pairs
+pub use Rattle.sdb_base.specs.Entries

@@ -56,11 +56,11 @@ impl Item {
         &self.pairs[start..end]
     }
 
-    /// A second item of the same pairs.
-    pub(crate) fn copy(&self, alloc: Global) -> Result<Item, OutOfMemory>
+    /// A second item of the same pairs, with room for so many.
+    pub(crate) fn copy(&self, alloc: Global, room: usize) -> Result<Item, OutOfMemory>
         ensures { IfOk result (λ copied. copied ≡ self.now) }
     {
-        let mut pairs = Vec::with_capacity(alloc, self.pairs.len())?;
+        let mut pairs = Vec::with_capacity(alloc, room)?;
         for pair in &self.pairs {
             pairs.push(pair.copy(alloc)?)?;
         }

@@ -1,4 +1,4 @@
-ghost use Rattle.sdb_pairs.specs.Laws.{ChangesKeepAccountsRising, DeletesAreEdits, EditChangesOneItem, PlacesSettle, PlacesTellAll, PutsAreEdits, StateOfJoined};
+ghost use Rattle.sdb_pairs.specs.Laws.{ChangesKeepAccountsRising, DeletesAreEdits, DropChangesOneDomain, EditChangesOneItem, MakeChangesOneDomain, OwnChangesAreLawful, OwnChangesRebuild, PlacesSettle, PlacesTellAll, PutsAreEdits, StateOfJoined};
 
 /// Accounts stay in rising order, item names and pairs too, whatever changes are applied.
 pub fn changes_keep_accounts_rising()
@@ -13,6 +13,23 @@ pub fn state_of_joined()
 /// An edit makes its domain, leaves its item with the pairs after the operations, and leaves every other place as it was.
 pub fn edit_changes_one_item()
     ensures { EditChangesOneItem }
+{}
+
+/// Making a domain leaves it there with the items that it had, and leaves every other domain as it was.
+pub fn make_changes_one_domain()
+    ensures { MakeChangesOneDomain }
+{}
+
+/// Dropping a domain leaves it absent, and leaves every other domain as it was.
+pub fn drop_changes_one_domain()
+    ensures { DropChangesOneDomain }
+{}
+
+/// Accounts are rebuilt from their own changes, which make each domain and then add each of its items by one edit, applied to
+/// empty accounts. Where the accounts are lawful, so are these changes.
+pub fn own_changes_rebuild()
+    ensures rebuilt { OwnChangesRebuild }
+    ensures lawful { OwnChangesAreLawful }
 {}
 
 /// Accounts that agree with a state at one place agree with it there after the same changes once more, and after any further changes.

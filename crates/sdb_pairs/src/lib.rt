@@ -13,7 +13,8 @@ pub use change::{Change, Changes};
 pub use edits::merge;
 pub use item::Item;
 pub use laws::{
-    changes_keep_accounts_rising, deletes_are_edits, edit_changes_one_item, places_settle,
+    changes_keep_accounts_rising, deletes_are_edits, drop_changes_one_domain,
+    edit_changes_one_item, make_changes_one_domain, own_changes_rebuild, places_settle,
     places_tell_all, puts_are_edits, state_of_joined,
 };
 pub use listing::{ItemOut, ItemsOut, Pairs};

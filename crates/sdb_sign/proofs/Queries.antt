@@ -13,7 +13,8 @@ use Rattle.std.proofs.lemmas.List.Elements.{filter-append}
 use Rattle.std.proofs.lemmas.List.Sums.{fold-append}
 use Rattle.sdb_base.specs.Pairs.{NamedValues}
 use Rattle.sdb_base.specs.Texts.{text_cmp}
-use Rattle.sdb_sign.specs.Canon.{ampersand, is_signed_name, rising, signed_params, with_param, written}
+use Rattle.sdb_base.specs.Ascii.{ampersand}
+use Rattle.sdb_sign.specs.Canon.{is_signed_name, rising, signed_params, with_param, written}
 
 -- what the parameters that are left bring: before the first there is no `&`
 abbrev pub left_of : Bool → NamedValues → List ℕ

@@ -1,5 +1,5 @@
 -- Parameters that are put in their places one after the other rise by name, and no other list does.
-use Rattle.std.proofs.Common.{◌≡◌, ℕ, zero, suc, ◌<◌, ◌⊎◌, false, List, [], ◌∷◌, ◌++◌, length, get_or, refl, sym, ap, ◌∙◌, subst, inl, inr, ⊎_elim, arith}
+use Rattle.std.proofs.Common.{◌≡◌, ℕ, zero, suc, ◌<◌, ◌⊎◌, false, List, [], ◌∷◌, ◌++◌, length, get_or, Some, refl, sym, ap, ◌∙◌, subst, inl, inr, ⊎_elim, arith}
 use Rattle.std.specs.declared.cmp.Ordering.{Ordering}
 use Rattle.std.specs.declared.cmp.Ordering.TheVariants.{Less, Equal, Greater}
 use Rattle.std.specs.Cmp.Lexicographic.{nat_list_cmp_total, nat_list_eq_equiv}
@@ -14,14 +14,13 @@ use Rattle.std.proofs.lemmas.List.Sorted.{Contains-permutation, IsPermutation-ap
 use Rattle.std.proofs.lemmas.Map.Keys.{IsDistinct-IsPermutation, IsDistinct-head}
 use Rattle.std.proofs.lemmas.Map.Lookups.{exact_bytes}
 use Rattle.sdb_base.specs.Pairs.{HasDistinctNames, NamedValues}
-use Rattle.sdb_base.specs.Texts.{IsRising, text_cmp}
+use Rattle.sdb_base.specs.Entries.{IsRising}
+use Rattle.sdb_base.specs.Texts.{text_cmp}
+use Rattle.sdb_base.proofs.EntryLemmas.{rising-placed}
 use Rattle.sdb_sign.specs.Canon.{rising, with_param}
 
 abbrev Param : Type 0
 Param = List ℕ × List ℕ
-
-flip : (a b : List ℕ) → text_cmp a b ≡ Greater → text_cmp b a ≡ Less
-flip a b greater = nat_list_cmp_total.antisymm b a ∙ ap ordering_reverse greater
 
 never_both : (a b : List ℕ) → text_cmp a b ≡ Less → text_cmp b a ≡ Less → ⊥
 never_both a b less back =
@@ -30,39 +29,11 @@ never_both a b less back =
 
 -- ---- order
 
-weaker : (P Q : List ℕ → Type 0) → ((name : List ℕ) → P name → Q name) → (names : List (List ℕ)) → AllByRecursion P names → AllByRecursion Q names
-weaker P Q gives [] all = tt
-weaker P Q gives (name ∷ names) all = (gives name all.0, weaker P Q gives names all.1)
-
-pass_placed : (P : List ℕ → Type 0) (o : Ordering) (e p : Param) (es more : NamedValues) → AllByRecursion P (keys_of (e ∷ es)) → P p.0 → AllByRecursion P (keys_of more) → AllByRecursion P (keys_of (match_ordering o (p ∷ e ∷ es) ((e.0, p.1) ∷ es) (e ∷ more)))
-pass_placed P Less e p es more all one rest = (one, all)
-pass_placed P Equal e p es more all one rest = all
-pass_placed P Greater e p es more all one rest = (all.0, rest)
-
--- what holds of each name holds of each after a parameter of which it holds is put among them
-names_pass : (P : List ℕ → Type 0) (es : NamedValues) (p : Param) → AllByRecursion P (keys_of es) → P p.0 → AllByRecursion P (keys_of (with_param es p))
-names_pass P [] p all one = (one, tt)
-names_pass P (e ∷ es) p all one =
-    pass_placed P (text_cmp p.0 e.0) e p es (with_param es p) all one (names_pass P es p all.1 one)
-
-rise_placed : (o : Ordering) (e p : Param) (es : NamedValues) → text_cmp p.0 e.0 ≡ o → IsRising (keys_of (e ∷ es)) → IsRising (keys_of (with_param es p)) → IsRising (keys_of (match_ordering o (p ∷ e ∷ es) ((e.0, p.1) ∷ es) (e ∷ with_param es p)))
-unfolding IsStrictlySortedBy
-rise_placed Less e p es is rises rest =
-    ((is, weaker (λ name. text_cmp e.0 name ≡ Less) (λ name. text_cmp p.0 name ≡ Less) (λ name later. nat_list_cmp_total.trans p.0 e.0 name is later) (keys_of es) rises.0), rises)
-rise_placed Equal e p es is rises rest = rises
-rise_placed Greater e p es is rises rest =
-    (names_pass (λ name. text_cmp e.0 name ≡ Less) es p rises.0 (flip p.0 e.0 is), rest)
-
-rises_more : (es : NamedValues) (p : Param) → IsRising (keys_of es) → IsRising (keys_of (with_param es p))
-unfolding IsStrictlySortedBy
-rises_more [] p rises = (tt, tt)
-rises_more (e ∷ es) p rises = rise_placed (text_cmp p.0 e.0) e p es refl rises (rises_more es p rises.1)
-
-rises_fold : (es ps : NamedValues) → IsRising (keys_of es) → IsRising (keys_of (fold with_param es ps))
+rises_fold : (es ps : NamedValues) → IsRising text_cmp es → IsRising text_cmp (fold with_param es ps)
 rises_fold es [] rises = rises
-rises_fold es (p ∷ ps) rises = rises_fold (with_param es p) ps (rises_more es p rises)
+rises_fold es (p ∷ ps) rises = rises_fold (with_param es p) ps (rising-placed nat_list_cmp_total es p.0 (Some p.1) rises)
 
-pub rising_rises : (params : NamedValues) → IsRising (keys_of (rising params))
+pub rising_rises : (params : NamedValues) → IsRising text_cmp (rising params)
 unfolding rising IsStrictlySortedBy
 rising_rises params = rises_fold [] params tt
 
@@ -124,7 +95,7 @@ later P [] x all found = absurd found
 later P (e ∷ es) x all (inl is) = subst (λ (y : Param). P y.0) (sym is) all.0
 later P (e ∷ es) x all (inr more) = later P es x all.1 more
 
-one_rising : (ps qs : NamedValues) → IsRising (keys_of ps) → IsRising (keys_of qs) → ((x : Param) → Among ps x → Among qs x) → ((x : Param) → Among qs x → Among ps x) → ps ≡ qs
+one_rising : (ps qs : NamedValues) → IsRising text_cmp ps → IsRising text_cmp qs → ((x : Param) → Among ps x → Among qs x) → ((x : Param) → Among qs x → Among ps x) → ps ≡ qs
 unfolding IsStrictlySortedBy
 one_rising [] [] p_rises q_rises forth back = refl
 one_rising [] (q ∷ qs) p_rises q_rises forth back = absurd (back q (inl refl))
@@ -151,7 +122,7 @@ one_rising (p ∷ ps) (q ∷ qs) p_rises q_rises forth back =
     in
     ap (λ front. front ∷ ps) first ∙ ap (λ tail. q ∷ tail) rest
 
-pub rising_only : (params other : NamedValues) → HasDistinctNames params → IsRising (keys_of other) → IsPermutation params other → other ≡ rising params
+pub rising_only : (params other : NamedValues) → HasDistinctNames params → IsRising text_cmp other → IsPermutation params other → other ≡ rising params
 rising_only params other distinct rises same =
     let sorted = rising_permutes params distinct in
     let there = IsPermutation-trans other params (rising params) (IsPermutation-sym params other same) sorted in

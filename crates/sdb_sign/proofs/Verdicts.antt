@@ -9,7 +9,8 @@ use Rattle.sdb_time.specs.Moments.{IsMoment, IsMomentText}
 use Rattle.sdb_time.proofs.Grammar.{parts_complete}
 use Rattle.sdb_sign.specs.Fresh.{ReadsAs, in_time}
 use Rattle.sdb_sign.specs.Canon.{text_to_sign}
-use Rattle.sdb_sign.specs.Signing.{◌>>=◌, IsVerdict, IsVerdictOrMemory, Then, Verdict, claim_of, known_key, signed_by}
+use Rattle.sdb_base.specs.Results.{◌>>=◌}
+use Rattle.sdb_sign.specs.Signing.{IsVerdict, IsVerdictOrMemory, Then, Verdict, claim_of, known_key, signed_by}
 
 one_moment : (text : List ℕ) (a b : ℕ) → IsMomentText text a → IsMomentText text b → a ≡ b
 one_moment text a b x y =

@@ -4,30 +4,11 @@ use Rattle.std.specs.Char.{is_ascii_alphanumeric, to_ascii_lowercase}
 use Rattle.std.specs.List.{flat_map, fold, join_by}
 use Rattle.std.specs.BTreeMap.{insert_entry}
 use Rattle.std.specs.Str.{bytes_eq}
+use Rattle.sdb_base.specs.Ascii.{line_feed, percent, slash, equals_sign, ampersand}
 use Rattle.sdb_base.specs.declared.verb.Verb.{Verb}
 use Rattle.sdb_base.specs.declared.verb.Verb.TheVariants.{Get, Post}
 use Rattle.sdb_base.specs.Pairs.{NamedValues}
 use Rattle.sdb_base.specs.Texts.{text_cmp}
-
--- `b'\n'`
-abbrev pub line_feed : ℕ
-line_feed = 10
-
--- `b'%'`
-abbrev pub percent : ℕ
-percent = 37
-
--- `b'/'`
-abbrev pub slash : ℕ
-slash = 47
-
--- `b'='`
-abbrev pub equals_sign : ℕ
-equals_sign = 61
-
--- `b'&'`
-abbrev pub ampersand : ℕ
-ampersand = 38
 
 -- the unreserved characters, `A-Z a-z 0-9 - . _ ~` (RFC 3986, section 2.3)
 abbrev pub is_unreserved : ℕ → Bool

@@ -5,6 +5,7 @@ use Rattle.base64.specs.Engines.{standard}
 use Rattle.base64.specs.GeneralPurpose.{encode_of}
 use Rattle.sdb_base.specs.declared.verb.Verb.{Verb}
 use Rattle.sdb_base.specs.Pairs.{NamedValues, value_of}
+use Rattle.sdb_base.specs.Results.{◌>>=◌}
 use Rattle.sdb_keys.specs.declared.keys.Key.{Key}
 use Rattle.sdb_keys.specs.Keys.{account_and_secret, find_key}
 use Rattle.sdb_tables.specs.declared.refusal.Refusal.{Refusal}
@@ -18,11 +19,6 @@ use Rattle.sdb_sign.specs.Hmac.{hmac}
 -- the account that a request is executed for, or why it isn't executed
 abbrev pub Verdict : Type 0
 Verdict = Result ℕ Refusal
-
-infixl 10 ◌>>=◌
-abbrev pub ◌>>=◌ : {A B : Type 0} → Result A Refusal → (A → Result B Refusal) → Result B Refusal
-(Err refusal) >>= next = Err refusal
-(Ok value) >>= next = next value
 
 -- ---- what a request says of its signature
 

@@ -1,7 +1,8 @@
 ghost use Rattle.std.specs.Prelude.{◌≡◌, [], ◌++◌, ◌∷◌, IfOk, OnOk, map};
 ghost use Rattle.std.specs.List.{join_by};
 ghost use Rattle.std.specs.Map.Iter.{deref_pair};
-ghost use Rattle.sdb_sign.specs.Canon.{ampersand, canonical_query, escaped, is_signed_name, signed_params, text_to_sign, verb_word, written};
+ghost use Rattle.sdb_base.specs.Ascii.{ampersand};
+ghost use Rattle.sdb_sign.specs.Canon.{canonical_query, escaped, is_signed_name, signed_params, text_to_sign, verb_word, written};
 
 use crate::words::signature_name;
 use percent_encoding::{AsciiSet, NON_ALPHANUMERIC, ascii_set, percent_encode};

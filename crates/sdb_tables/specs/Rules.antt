@@ -1,6 +1,7 @@
 -- The fields that rows of rules read from parameters, or the refusal of the first row that fails.
-use Rattle.std.specs.Prelude.{ℕ, List, [], ◌∷◌, Option, Some, None, Result, Ok, Err, if◌then◌else◌}
+use Rattle.std.specs.Prelude.{ℕ, List, Option, Some, None, Result, Ok, Err, if◌then◌else◌}
 use Rattle.sdb_base.specs.Pairs.{NamedValues, value_of}
+use Rattle.sdb_base.specs.Results.{each}
 use Rattle.sdb_tables.specs.declared.refusal.Refusal.{Refusal}
 use Rattle.sdb_tables.specs.declared.refusal.Refusal.TheVariants.{InvalidParameterValue, MissingParameter}
 use Rattle.sdb_tables.specs.declared.rules.ParamRow.{ParamRow}
@@ -20,13 +21,6 @@ judged row (Some text) = if fits row.kind text then Ok (Some text) else Err Inva
 abbrev pub field_of : NamedValues → ParamRow → Result Field Refusal
 field_of params row = judged row (value_of params row.name.now)
 
--- a field before those of the later rows
-abbrev pub before_rest : Result Field Refusal → Result (List Field) Refusal → Result (List Field) Refusal
-before_rest (Err refusal) rest = Err refusal
-before_rest (Ok field) (Err refusal) = Err refusal
-before_rest (Ok field) (Ok fields) = Ok (field ∷ fields)
-
 -- the fields of the rows in order, or the refusal of the first row that fails
 abbrev pub fields_of : NamedValues → List ParamRow → Result (List Field) Refusal
-fields_of params [] = Ok []
-fields_of params (row ∷ rows) = before_rest (field_of params row) (fields_of params rows)
+fields_of params rows = each (field_of params) rows

@@ -1,5 +1,5 @@
 -- The functions that read a moment's text give what the grammar says, in both directions.
-use Rattle.std.proofs.Common.{◌≡◌, ℕ, suc, ◌≤◌, Bool, true, false, ◌==◌, ◌||◌, cond, List, [], ◌∷◌, ◌++◌, length, take, drop, Some, None, refl, ap, sym, ◌∙◌, subst, ⊎_elim, arith, append-nil, length-take, take-append-drop, one-add}
+use Rattle.std.proofs.Common.{◌≡◌, ℕ, suc, ◌≤◌, Bool, true, false, ◌==◌, ◌||◌, List, [], ◌∷◌, ◌++◌, length, take, drop, Some, None, refl, ap, sym, ◌∙◌, subst, ⊎_elim, arith, append-nil, length-take, take-append-drop, one-add}
 use Rattle.std.specs.Prelude.{nat_lt, take_while}
 use Rattle.std.specs.Char.{is_ascii_digit}
 use Rattle.std.specs.List.{list_all, prefix_len}
@@ -12,8 +12,10 @@ use Rattle.sdb_time.specs.Moments.IsFraction.{whole, parts_of_second}
 use Rattle.sdb_time.specs.Moments.IsZone.{unsaid, utc, ahead, behind}
 use Rattle.sdb_time.specs.Parts.{Parts, Zone}
 use Rattle.sdb_time.specs.Reading as reading
-use Rattle.sdb_time.specs.Reading.{◌>>=◌, digits_len, two_digits, after, field, four_digits, after_fraction, offset, zone, parts}
-use Rattle.sdb_time.proofs.Numbers.{on_some, both, two_front, two_complete, number_of_two, four_sound, four_complete, after_sound, after_again, field_sound, field_complete}
+use Rattle.sdb_time.specs.Reading.{digits_len, two_digits, after_byte, field, four_digits, after_fraction, offset, zone, parts}
+use Rattle.sdb_base.proofs.Cases.{both}
+use Rattle.sdb_base.proofs.OptionLemmas.{on_some, on_other}
+use Rattle.sdb_time.proofs.Numbers.{two_front, two_complete, number_of_two, four_sound, four_complete, after_byte_sound, after_byte_again, field_sound, field_complete}
 
 -- ---- fractions
 
@@ -35,10 +37,6 @@ front_again (d ∷ digits) rest all stops =
 
 front_split : (n : ℕ) (text : List ℕ) → text ≡ take n text ++ drop (length (take n text)) text
 front_split n text = rw (length-take n text, drop_min n text) (sym (take-append-drop n text))
-
-pub on_other : {A : Type 0} (b : Bool) (x y : A) → cond b None (Some x) ≡ Some y → (b ≡ false) × (x ≡ y)
-on_other true x y e = absurd cc
-on_other false x y e = (refl, cc)
 
 fraction_sound : (text rest : List ℕ) → after_fraction text ≡ Some rest → (fraction : List ℕ) × IsFraction fraction × (text ≡ fraction ++ rest)
 unfolding after_fraction
@@ -152,7 +150,7 @@ parts_complete text p s =
     rw (
       s.spelled,
       four_complete s.year _ p.year s.year_is,
-      after_again 45 _,
+      after_byte_again 45 _,
       field_complete 45 s.month _ p.month s.month_is,
       field_complete 84 s.day _ p.day s.day_is,
       field_complete 58 s.hour _ p.hour s.hour_is,
@@ -167,7 +165,7 @@ pub parts_sound : (text : List ℕ) (p : Parts) → parts text ≡ Some p → Sp
 unfolding parts
 parts_sound text p e =
     on_some (four_digits text) _ p e (λ year is_year e1.
-    on_some (after 45 year.1) _ p e1 (λ month_text is_dash e2.
+    on_some (after_byte 45 year.1) _ p e1 (λ month_text is_dash e2.
     on_some (field 45 month_text) _ p e2 (λ month is_month e3.
     on_some (field 84 month.1) _ p e3 (λ day is_day e4.
     on_some (field 58 day.1) _ p e4 (λ hour is_hour e5.
@@ -176,7 +174,7 @@ parts_sound text p e =
     on_some (after_fraction second.1) _ p e7 (λ zone_text is_fraction e8.
     on_some (zone zone_text) _ p e8 (λ distance is_zone e9.
     let y = four_sound text year is_year in
-    let dash = after_sound 45 year.1 month_text is_dash in
+    let dash = after_byte_sound 45 year.1 month_text is_dash in
     let mo = field_sound 45 month_text month is_month in
     let d = field_sound 84 month.1 day is_day in
     let h = field_sound 58 day.1 hour is_hour in

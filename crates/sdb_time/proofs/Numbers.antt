@@ -1,24 +1,13 @@
 -- Reading digits, in both directions.
-use Rattle.std.proofs.Common.{◌≡◌, ℕ, ◌+◌, ◌-◌, ◌*◌, Bool, true, false, ◌&&◌, cond, List, [], ◌∷◌, ◌++◌, Option, Some, None, ◌==◌, refl, ap, sym, ◌∙◌, subst, arith}
+use Rattle.std.proofs.Common.{◌≡◌, ℕ, ◌+◌, ◌-◌, ◌*◌, true, ◌&&◌, List, [], ◌∷◌, ◌++◌, Some, ◌==◌, refl, ap, sym, ◌∙◌, subst, arith}
 use Rattle.std.specs.Char.{is_ascii_digit}
 use Rattle.std.specs.List.{list_all}
 use Rattle.std.proofs.lemmas.Bool.{cond-true, and_from, eq-eqb}
 use Rattle.std.proofs.lemmas.Bool.Decides.{nat_tests}
 use Rattle.sdb_time.specs.Moments.{IsNumber}
-use Rattle.sdb_time.specs.Reading.{◌>>=◌, two_digits, after, field, four_digits}
-
--- what a chain gives, its first link gave
-pub on_some : {A B : Type 0} {P : Type 0} (o : Option A) (f : A → Option B) (y : B) → (o >>= f) ≡ Some y → ((x : A) → o ≡ Some x → f x ≡ Some y → P) → P
-on_some None f y e goes = absurd cc
-on_some (Some x) f y e goes = goes x refl e
-
-pub on_guard : {A : Type 0} (b : Bool) (x y : A) → cond b (Some x) None ≡ Some y → (b ≡ true) × (x ≡ y)
-on_guard true x y e = (refl, cc)
-on_guard false x y e = absurd cc
-
-pub both : (a b : Bool) → a && b ≡ true → (a ≡ true) × (b ≡ true)
-both true b e = (refl, e)
-both false b e = absurd cc
+use Rattle.sdb_base.proofs.Cases.{both}
+use Rattle.sdb_base.proofs.OptionLemmas.{on_some, on_guard}
+use Rattle.sdb_time.specs.Reading.{two_digits, after_byte, field, four_digits}
 
 -- two digits stand at the front
 pub record StartsWithTwo (text : List ℕ) (n : ℕ) (rest : List ℕ) : Type 0 where
@@ -97,29 +86,29 @@ four_complete (a ∷ b ∷ c ∷ d ∷ []) rest n h =
     rw (two_again a b (c ∷ d ∷ rest) x.0 y.0, two_again c d rest z.0 w.0) (ap (λ k. Some (k, rest)) value)
 four_complete (a ∷ b ∷ c ∷ d ∷ e ∷ digits) rest n h = absurd (omega (arith, h.long))
 
-pub after_sound : (c : ℕ) (text rest : List ℕ) → after c text ≡ Some rest → text ≡ c ∷ rest
-unfolding after
-after_sound c [] rest e = absurd cc
-after_sound c (b ∷ text) rest e =
+pub after_byte_sound : (c : ℕ) (text rest : List ℕ) → after_byte c text ≡ Some rest → text ≡ c ∷ rest
+unfolding after_byte
+after_byte_sound c [] rest e = absurd cc
+after_byte_sound c (b ∷ text) rest e =
     let h = on_guard (b == c) text rest e in
     let same : b ≡ c = grind (arith, nat_tests) in
     rw (same, h.1) refl
 
-pub after_again : (c : ℕ) (rest : List ℕ) → after c (c ∷ rest) ≡ Some rest
-unfolding after
-after_again c rest = cond-true _ _ _ (eq-eqb c c refl)
+pub after_byte_again : (c : ℕ) (rest : List ℕ) → after_byte c (c ∷ rest) ≡ Some rest
+unfolding after_byte
+after_byte_again c rest = cond-true _ _ _ (eq-eqb c c refl)
 
 pub field_sound : (c : ℕ) (text : List ℕ) (found : ℕ × List ℕ) → field c text ≡ Some found → (digits : List ℕ) × IsNumber 2 digits found.0 × (text ≡ digits ++ (c ∷ found.1))
 unfolding field
 field_sound c text found e =
     on_some (two_digits text) _ found e (λ number is e1.
-    on_some (after c number.1) _ found e1 (λ rest is_rest e2.
+    on_some (after_byte c number.1) _ found e1 (λ rest is_rest e2.
     let same : (number.0, rest) ≡ found = cc in
     let h = number_of_two text number.0 number.1 (two_front text number is) in
-    let tail = after_sound c number.1 rest is_rest ∙ ap (λ (x : ℕ × List ℕ). c ∷ x.1) same in
+    let tail = after_byte_sound c number.1 rest is_rest ∙ ap (λ (x : ℕ × List ℕ). c ∷ x.1) same in
     (h.0, subst (λ (x : ℕ × List ℕ). IsNumber 2 h.0 x.0) same h.1, h.2 ∙ ap (λ t. h.0 ++ t) tail)))
 
 pub field_complete : (c : ℕ) (digits rest : List ℕ) (n : ℕ) → IsNumber 2 digits n → field c (digits ++ (c ∷ rest)) ≡ Some (n, rest)
 unfolding field
 field_complete c digits rest n h =
-    rw (two_complete digits (c ∷ rest) n h, after_again c rest) refl
+    rw (two_complete digits (c ∷ rest) n h, after_byte_again c rest) refl

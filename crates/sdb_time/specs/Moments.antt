@@ -3,32 +3,9 @@ use Rattle.std.specs.Prelude.{◌≡◌, ℕ, ◌+◌, ◌*◌, ◌≤◌, true,
 use Rattle.std.specs.Char.{is_ascii_digit}
 use Rattle.std.specs.List.{list_all}
 use Rattle.jiff_core.specs.Calendar.{IsCivilDate, days_from_civil}
+use Rattle.sdb_base.specs.Ascii.{dash, colon, plus, dot, letter_t, letter_z}
 use Rattle.sdb_base.specs.Decimal.{value_after}
 use Rattle.sdb_time.specs.Parts.{Parts, Zone}
-
--- `b'-'`
-abbrev pub dash : ℕ
-dash = 45
-
--- `b':'`
-abbrev pub colon : ℕ
-colon = 58
-
--- `b'+'`
-abbrev pub plus : ℕ
-plus = 43
-
--- `b'.'`
-abbrev pub dot : ℕ
-dot = 46
-
--- `b'T'`
-abbrev pub letter_t : ℕ
-letter_t = 84
-
--- `b'Z'`
-abbrev pub letter_z : ℕ
-letter_z = 90
 
 -- exactly so many digits, and the number that they spell
 pub record IsNumber (width : ℕ) (digits : List ℕ) (n : ℕ) : Type 0 where

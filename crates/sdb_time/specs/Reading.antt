@@ -1,12 +1,8 @@
 -- What the functions that read a moment's text give. The grammar is in `Moments`.
 use Rattle.std.specs.Prelude.{ℕ, ◌+◌, ◌-◌, ◌*◌, Bool, true, false, ◌&&◌, ◌||◌, ◌==◌, nat_lt, List, [], ◌∷◌, length, drop, take_while, Option, Some, None, if◌then◌else◌}
 use Rattle.std.specs.Char.{is_ascii_digit}
+use Rattle.sdb_base.specs.Options.{◌>>=◌}
 use Rattle.sdb_time.specs.Parts.{Parts, Zone}
-
-infixl 10 ◌>>=◌
-abbrev pub ◌>>=◌ : {A B : Type 0} → Option A → (A → Option B) → Option B
-None >>= f = None
-(Some x) >>= f = f x
 
 -- two digits at the front, and what follows them
 unfoldable pub two_digits : List ℕ → Option (ℕ × List ℕ)
@@ -16,15 +12,15 @@ two_digits (a ∷ b ∷ rest) =
     if is_ascii_digit a && is_ascii_digit b then Some ((a - 48) * 10 + (b - 48), rest) else None
 
 -- what follows this byte at the front
-unfoldable pub after : ℕ → List ℕ → Option (List ℕ)
-after c [] = None
-after c (b ∷ rest) = if b == c then Some rest else None
+unfoldable pub after_byte : ℕ → List ℕ → Option (List ℕ)
+after_byte c [] = None
+after_byte c (b ∷ rest) = if b == c then Some rest else None
 
 -- a number of two digits, and what follows it and this byte
 unfoldable pub field : ℕ → List ℕ → Option (ℕ × List ℕ)
 field c text = do
   number ← two_digits text
-  rest ← after c number.1
+  rest ← after_byte c number.1
   Some (number.0, rest)
 
 unfoldable pub four_digits : List ℕ → Option (ℕ × List ℕ)
@@ -66,7 +62,7 @@ zone (b ∷ rest) =
 unfoldable pub parts : List ℕ → Option Parts
 parts text = do
   year ← four_digits text
-  month_text ← after 45 year.1
+  month_text ← after_byte 45 year.1
   month ← field 45 month_text
   day ← field 84 month.1
   hour ← field 58 day.1

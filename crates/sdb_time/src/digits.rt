@@ -15,9 +15,9 @@ pub fn two_digits(text: &[u8]) -> Option<(u8, &[u8])>
 }
 
 /// What follows a byte that stands at the front.
-#[tactic(auto, unfolding(crate::specs::Reading::after))]
-pub fn after(wanted: u8, text: &[u8]) -> Option<&[u8]>
-    ensures { option_map (λ rest. rest.now) result ≡ reading.after wanted text.now }
+#[tactic(auto, unfolding(crate::specs::Reading::after_byte))]
+pub fn after_byte(wanted: u8, text: &[u8]) -> Option<&[u8]>
+    ensures { option_map (λ rest. rest.now) result ≡ reading.after_byte wanted text.now }
 {
     match text {
         [first, rest @ ..] if *first == wanted => Some(rest),
@@ -32,7 +32,7 @@ pub fn field(end: u8, text: &[u8]) -> Option<(u8, &[u8])>
     ensures small { IfSome result (λ found. found.0 ≤ 99) }
 {
     let (number, rest) = two_digits(text)?;
-    Some((number, after(end, rest)?))
+    Some((number, after_byte(end, rest)?))
 }
 
 /// A number of four digits at the front, and what follows it.

@@ -4,7 +4,7 @@ ghost use Rattle.jiff_core.specs.Calendar.{IsCivilDate, IsEpochDay, IsWithin, da
 ghost use Rattle.sdb_time.specs.Moments.{HasClock, clock_seconds};
 ghost use Rattle.sdb_time.specs.Reading as reading;
 
-use crate::digits::{after, field, four_digits, two_digits};
+use crate::digits::{after_byte, field, four_digits, two_digits};
 use crate::zone::Zone;
 use jiff::civil::Date;
 
@@ -54,7 +54,7 @@ impl Stamp {
         ensures { option_map parts_of result ≡ reading.parts text.now }
     {
         let (year, rest) = four_digits(text)?;
-        let (month, rest) = field(b'-', after(b'-', rest)?)?;
+        let (month, rest) = field(b'-', after_byte(b'-', rest)?)?;
         let (day, rest) = field(b'T', rest)?;
         let (hour, rest) = field(b':', rest)?;
         let (minute, rest) = field(b':', rest)?;

@@ -11,15 +11,14 @@ use Rattle.sdb_base.specs.Texts.{text_cmp}
 use Rattle.sdb_action.specs.declared.request.Request.{Request}
 use Rattle.sdb_action.specs.declared.request.Request.TheVariants.{CreateDomain, DeleteDomain, Put, BatchPut, Delete, BatchDelete}
 use Rattle.sdb_pairs.specs.Accounts.{ItemEntries, DomainEntries, domain_cmp, items_of, pairs_at, AreItems, AreAccounts}
-use Rattle.sdb_pairs.specs.Changes.{item_with, edited, items_or_none, after, state}
-use Rattle.sdb_pairs.specs.Entries.{found, placed}
+use Rattle.sdb_pairs.specs.Changes.{item_with, edited, items_or_none, after_change, state}
+use Rattle.sdb_base.specs.Entries.{found, placed}
 use Rattle.sdb_pairs.specs.Pairs.{pair_cmp, merged}
 use Rattle.sdb_pairs.specs.declared.pair.Pair.{Pair}
-use Rattle.sdb_pairs.proofs.AgreeLemmas.{same_entries}
+use Rattle.sdb_base.proofs.EntryLemmas.{same_entries, found-placed, rising-placed, key_at}
 use Rattle.sdb_pairs.proofs.EditLemmas.{puts_are_edits, deletes_are_edits}
-use Rattle.sdb_pairs.proofs.EntryLemmas.{found-placed, rising-placed}
-use Rattle.sdb_pairs.proofs.KeyLemmas.{by_bool}
-use Rattle.sdb_pairs.proofs.StateLemmas.{domain_total, domain_exact, key_at, pairs_at-rise, are_items, are_accounts_after, are_accounts_state}
+use Rattle.sdb_base.proofs.Cases.{by_bool}
+use Rattle.sdb_pairs.proofs.StateLemmas.{domain_total, domain_exact, pairs_at-rise, are_items, are_accounts_after, are_accounts_state}
 use Rattle.sdb_tables.specs.declared.refusal.Refusal.{Refusal}
 use Rattle.sdb_write.specs.Changes.{replaced_names, ops_of, edit_of, changes}
 use Rattle.sdb_write.specs.ItemWrites.{ItemWrite, put_into, delete_from, name_of, left_of, put_write, drop_write, with_pairs, items_written, NamesApart}
@@ -113,7 +112,7 @@ module _ (account : ℕ) (domain : List ℕ) (old : ItemEntries) where
   items_there accounts items h there = subst AreItems (ap (λ o. unwrap_or o []) there) (are_items accounts account domain h)
 
   after-edit_of : (accounts : DomainEntries) (items : ItemEntries) (w : ItemWrite) → AreAccounts accounts → found domain_cmp accounts (account, domain) ≡ Some items → pairs_at items (name_of w) ≡ pairs_at old (name_of w)
-      → after accounts (edit_of account domain w) ≡ placed domain_cmp accounts (account, domain) (Some (stepped items w))
+      → after_change accounts (edit_of account domain w) ≡ placed domain_cmp accounts (account, domain) (Some (stepped items w))
   after-edit_of accounts items w h there same =
       ap (λ o. placed domain_cmp accounts (account, domain) (Some (edited (unwrap_or o []) (name_of w) (ops_of w)))) there
       ∙ ap (λ ps. placed domain_cmp accounts (account, domain) (Some (with_pairs items (name_of w) ps)))

@@ -9,7 +9,7 @@ use Rattle.sdb_action.specs.declared.request.PutPair.{PutPair}
 use Rattle.sdb_pairs.specs.declared.pair.Pair.{Pair}
 use Rattle.sdb_pairs.specs.Accounts.{ItemEntries, pairs_at}
 use Rattle.sdb_pairs.specs.Changes.{item_with}
-use Rattle.sdb_pairs.specs.Entries.{placed}
+use Rattle.sdb_base.specs.Entries.{placed}
 use Rattle.sdb_pairs.specs.Pairs.{Put, put, Part, whole_name, one_pair, del}
 
 -- a pair of a put, and whether the old values of its name go

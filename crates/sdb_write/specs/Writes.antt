@@ -5,7 +5,7 @@ use Rattle.sdb_action.specs.declared.request.Request.{Request}
 use Rattle.sdb_action.specs.declared.request.Request.TheVariants.{CreateDomain, DeleteDomain, Put, BatchPut, Delete, BatchDelete}
 use Rattle.sdb_pairs.specs.Accounts.{ItemEntries, DomainEntries, domain_cmp, items_of, has_domain, pairs_at}
 use Rattle.sdb_pairs.specs.Changes.{items_or_none}
-use Rattle.sdb_pairs.specs.Entries.{placed}
+use Rattle.sdb_base.specs.Entries.{placed}
 use Rattle.sdb_tables.specs.declared.refusal.Refusal.{Refusal}
 use Rattle.sdb_tables.specs.declared.refusal.Refusal.TheVariants.{NoSuchDomain, ConditionalCheckFailed, AttributeDoesNotExist, MultiValuedAttribute, OutOfMemory}
 use Rattle.sdb_write.specs.Expectation.{unmet}

@@ -1,5 +1,5 @@
 use Rattle.std.proofs.Common.{◌≡◌, drop}
-use Rattle.sdb_action.specs.Steps.{each}
+use Rattle.sdb_base.specs.Results.{each}
 use Rattle.sdb_action.proofs.Gathering.{after_members}
 use Rattle.sdb_action.proofs.each.each.Given as goal
 

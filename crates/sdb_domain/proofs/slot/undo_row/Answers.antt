@@ -2,7 +2,7 @@ use Rattle.std.proofs.Common.{◌∙◌, sym, ap, Some}
 use Rattle.std.specs.Map.{set_value}
 use Rattle.std.specs.BTreeMap.{is_at}
 use Rattle.sdb_base.specs.Texts.{text_cmp}
-use Rattle.sdb_pairs.specs.Entries.{found}
+use Rattle.sdb_base.specs.Entries.{found}
 use Rattle.sdb_domain.proofs.SlotLemmas.{row_undo_made}
 use Rattle.sdb_domain.proofs.slot.undo_row.Goals as goal
 

@@ -1,6 +1,6 @@
 use Rattle.std.proofs.Common.{◌∙◌, sym, ap, Some, None}
 use Rattle.sdb_base.specs.Texts.{text_cmp}
-use Rattle.sdb_pairs.specs.Entries.{found}
+use Rattle.sdb_base.specs.Entries.{found}
 use Rattle.sdb_domain.specs.Slots.{domains_shown, AccountKept}
 use Rattle.sdb_domain.proofs.SlotLemmas.{found_shown}
 use Rattle.sdb_domain.proofs.account.Account.domain.Goals as goal

@@ -1,6 +1,6 @@
 use Rattle.std.proofs.Common.{◌≡◌, ◌+◌, ◌-◌, ◌∙◌, ap, subst}
 use Rattle.sdb_base.specs.Texts.{text_cmp}
-use Rattle.sdb_pairs.specs.Entries.{found}
+use Rattle.sdb_base.specs.Entries.{found}
 use Rattle.sdb_domain.specs.Slots.{domains_shown, count_shown, weight_shown, AccountKept}
 use Rattle.sdb_domain.specs.Steps.{domain_of, items_after, AccountSteps}
 use Rattle.sdb_domain.proofs.AccountLemmas.{whole_after, account_steps}

@@ -1,7 +1,7 @@
 use Rattle.std.proofs.Common.{◌≡◌, ◌+◌, ◌<◌, length, get_or, ◌∙◌, sym, ap, subst, arith, IfSome}
 use Rattle.sdb_base.specs.Texts.{text_cmp}
 use Rattle.sdb_pairs.specs.Accounts.{items_of}
-use Rattle.sdb_pairs.specs.Entries.{found}
+use Rattle.sdb_base.specs.Entries.{found}
 use Rattle.sdb_domain.specs.Slots.{AccountKept, account_at, domains_shown, IsSettled}
 use Rattle.sdb_domain.proofs.LogLemmas.{at_get}
 use Rattle.sdb_domain.proofs.NumberLemmas.{items_at}

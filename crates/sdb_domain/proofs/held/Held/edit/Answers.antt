@@ -3,7 +3,7 @@ use Rattle.std.specs.Option.{option_copied}
 use Rattle.sdb_pairs.specs.declared.pair.Pair.{Pair}
 use Rattle.sdb_base.specs.Texts.{text_cmp}
 use Rattle.sdb_pairs.specs.Accounts.{pairs_at}
-use Rattle.sdb_pairs.specs.Entries.{found}
+use Rattle.sdb_base.specs.Entries.{found}
 use Rattle.sdb_pairs.specs.Pairs.{merged}
 use Rattle.sdb_domain.specs.Held.{Kept, IsWhole, with_row}
 use Rattle.sdb_domain.proofs.WholeLemmas.{edit_made, edit_back, whole_with_row}

@@ -1,7 +1,7 @@
 use Rattle.std.proofs.Common.{◌∙◌, ap, Some, None}
 use Rattle.sdb_base.specs.Texts.{text_cmp}
 use Rattle.sdb_pairs.specs.Changes.{item_with}
-use Rattle.sdb_pairs.specs.Entries.{found}
+use Rattle.sdb_base.specs.Entries.{found}
 use Rattle.sdb_domain.specs.Held.{Kept}
 use Rattle.sdb_domain.specs.Keyed.{seen}
 use Rattle.sdb_domain.proofs.ItemSums.{item_found}

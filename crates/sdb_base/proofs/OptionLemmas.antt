@@ -1,6 +1,6 @@
--- Tests and chains of options, taken apart.
-use Rattle.std.proofs.Common.{◌≡◌, Bool, true, false, ◌&&◌, cond, Option, Some, None, refl}
-use Rattle.sdb_keys.specs.Reading.{◌>>=◌}
+-- Chains of options and options under a test, taken apart.
+use Rattle.std.proofs.Common.{◌≡◌, Bool, true, false, cond, Option, Some, None, refl}
+use Rattle.sdb_base.specs.Options.{◌>>=◌}
 
 -- what a chain gives, its first link gave
 pub on_some : {A B : Type 0} {P : Type 0} (o : Option A) (f : A → Option B) (y : B) → (o >>= f) ≡ Some y → ((x : A) → o ≡ Some x → f x ≡ Some y → P) → P
@@ -18,7 +18,3 @@ on_other false x y e = (refl, cc)
 pub on_none : {A : Type 0} (b : Bool) (x : A) → cond b (Some x) None ≡ None → b ≡ false
 on_none true x e = absurd cc
 on_none false x e = refl
-
-pub both : (a b : Bool) → a && b ≡ true → (a ≡ true) × (b ≡ true)
-both true b e = (refl, e)
-both false b e = absurd cc

@@ -1,6 +1,6 @@
 -- Strictly rising lists: a key added at its place, one taken out, and lists with the same members.
-use Rattle.std.proofs.Common.{◌≡◌, ℕ, zero, suc, ◌+◌, ◌<◌, ◌≤◌, Bool, true, false, cond, not, ◌||◌, List, [], ◌∷◌, length, get_or, take, drop, Ordering, Less, Equal, Greater, refl, sym, ap, ◌∙◌, subst, arith, filter, ⊎_elim, true≢false, is_eq, is_lt}
-use Rattle.std.specs.Cmp.{IsTotalOrder}
+use Rattle.std.proofs.Common.{◌≡◌, ℕ, zero, suc, ◌+◌, ◌<◌, ◌≤◌, Bool, true, false, cond, not, ◌||◌, List, [], ◌∷◌, ◌++◌, length, get_or, take, drop, Ordering, Less, Equal, Greater, refl, sym, ap, ◌∙◌, subst, arith, filter, ⊎_elim, true≢false, is_eq, is_lt}
+use Rattle.std.specs.Cmp.{IsTotalOrder, Equal-is}
 use Rattle.std.specs.Ordering.{ordering_index, ordering_reverse, match_ordering, eq_by_cmp}
 use Rattle.std.specs.BTreeSet.{insert_key}
 use Rattle.std.specs.List.{AllByRecursion, list_any, HoldsAt, AllWithin, insert, remove}
@@ -10,15 +10,7 @@ use Rattle.std.proofs.lemmas.List.Sorted.{searchable_from_sorted}
 use Rattle.std.proofs.lemmas.Map.Keys.{Less-from_sorted}
 use Rattle.std.proofs.lemmas.Map.Lookups.{CmpEqualImpliesEq}
 use Rattle.std.proofs.lemmas.Bool.{cases_lt}
-
-pub by_ordering : {P : Type 0} (r : Ordering) → (r ≡ Less → P) → (r ≡ Equal → P) → (r ≡ Greater → P) → P
-by_ordering Less l e g = l refl
-by_ordering Equal l e g = e refl
-by_ordering Greater l e g = g refl
-
-pub by_bool : {P : Type 0} (b : Bool) → (b ≡ true → P) → (b ≡ false → P) → P
-by_bool true t f = t refl
-by_bool false t f = f refl
+use Rattle.sdb_base.proofs.Cases.{by_bool, by_ordering}
 
 -- what each element has, under a weaker fact
 pub each_weaker : {X : Type 0} {P Q : X → Type 0} → ((x : X) → P x → Q x) → (xs : List X) → AllByRecursion P xs → AllByRecursion Q xs
@@ -38,8 +30,20 @@ pub each_from_places : {X : Type 0} (P : X → Type 0) (xs : List X) → ((i : �
 each_from_places P [] h = tt
 each_from_places P (x ∷ xs) h = (h 0 x (omega arith), each_from_places P xs (λ i d lt. h (suc i) d (omega arith)))
 
+-- what each has, one of them has
+pub each_middle : {X : Type 0} (P : X → Type 0) (xs ys : List X) (x : X) → AllByRecursion P (xs ++ x ∷ ys) → P x
+each_middle P [] ys x h = h.0
+each_middle P (y ∷ xs) ys x h = each_middle P xs ys x h.1
+
+-- in a rising list those before a key are below it
+pub front_below : {K : Type 0} (cmp : K → K → Ordering) (xs ys : List K) (k : K) → IsStrictlySortedBy cmp (xs ++ k ∷ ys) → AllByRecursion (λ y. cmp y k ≡ Less) xs
+unfolding IsStrictlySortedBy
+front_below cmp [] ys k s = tt
+front_below cmp (x ∷ xs) ys k s = (each_middle (λ y. cmp x y ≡ Less) xs ys k s.0, front_below cmp xs ys k s.1)
+
 module _ {K : Type 0} {cmp : K → K → Ordering} (o : IsTotalOrder cmp) where
-  turn : (x y : K) (r : Ordering) → cmp x y ≡ r → cmp y x ≡ ordering_reverse r
+  -- the order of two keys, turned
+  pub turn : (x y : K) (r : Ordering) → cmp x y ≡ r → cmp y x ≡ ordering_reverse r
   turn x y r e = o.antisymm y x ∙ ap ordering_reverse e
 
   -- a key below all others is below one that stands among them
@@ -85,6 +89,11 @@ module _ {K : Type 0} {cmp : K → K → Ordering} (o : IsTotalOrder cmp) where
   insert_key-at k (y ∷ ys) (suc i) le below above =
       ap (λ l. y ∷ l) (insert_key-at k ys i (omega arith) (λ j d low high. below (suc j) d (omega arith) (omega arith)) (λ j d low high. above (suc j) d (omega arith) (omega arith)))
       ∙ sym (ap (λ r. match_ordering r (k ∷ y ∷ ys) (y ∷ ys) (y ∷ insert_key cmp ys k)) (turn y k Less (below 0 y (omega arith) (omega arith))))
+
+  -- a key above all others goes to the end
+  pub insert_key-last : (k : K) (ks : List K) → AllByRecursion (λ y. cmp y k ≡ Less) ks → insert_key cmp ks k ≡ ks ++ k ∷ []
+  insert_key-last k [] h = refl
+  insert_key-last k (y ∷ ys) h = ap (λ r. match_ordering r (k ∷ y ∷ ys) (y ∷ ys) (y ∷ insert_key cmp ys k)) (turn y k Less h.0) ∙ ap (λ l. y ∷ l) (insert_key-last k ys h.1)
 
   -- ---- what a binary search finds
 
@@ -188,17 +197,12 @@ module _ {K : Type 0} {cmp : K → K → Ordering} (o : IsTotalOrder cmp) where
       rests q =
           by_bool (eq_by_cmp cmp q x)
           (λ at.
-          let is : q ≡ x = exact q x (equal (cmp q x) at) in
+          let is : q ≡ x = exact q x ((Equal-is (cmp q x)).0 at) in
           subst (λ k. has k xs ≡ false) (sym is) (has-above x xs s.0)
           ∙ sym (subst (λ k. has k ys ≡ false) (sym (is ∙ heads)) (has-above y ys t.0)))
           (λ off.
           let off' : eq_by_cmp cmp q y ≡ false = subst (λ k. eq_by_cmp cmp q k ≡ false) heads off in
           sym (ap (λ b. b || has q xs) off) ∙ same q ∙ ap (λ b. b || has q ys) off')
-        where
-          equal : (r : Ordering) → is_eq r ≡ true → r ≡ Equal
-          equal Less h = absurd (true≢false (sym h))
-          equal Equal h = refl
-          equal Greater h = absurd (true≢false (sym h))
 
     -- rising lists with the same members are one list
     pub same_members : (xs ys : List K) → IsStrictlySortedBy cmp xs → IsStrictlySortedBy cmp ys → ((q : K) → has q xs ≡ has q ys) → xs ≡ ys
