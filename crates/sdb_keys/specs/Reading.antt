@@ -10,10 +10,12 @@ use Rattle.sdb_keys.specs.File.{space, is_word, is_secret_byte, is_skipped}
 use Rattle.sdb_keys.specs.Keys.{is_known}
 
 infixl 10 ◌>>=◌
+-- what is read next, where the first reading gave something
 abbrev pub ◌>>=◌ : {A B : Type 0} → Option A → (A → Option B) → Option B
 None >>= f = None
 (Some x) >>= f = f x
 
+-- the byte between the words of a line
 abbrev pub is_space : ℕ → Bool
 is_space b = b == space
 
@@ -36,9 +38,11 @@ words_of text = do
   words ← split_at_space text
   if is_word is_ascii_alphanumeric words.0 && is_word is_secret_byte words.1 then Some words else None
 
+-- the key of this account, id and secret
 abbrev pub key_with : ℕ → List ℕ → List ℕ → Key
 key_with account id secret = record { account = account; id = id; secret = secret }
 
+-- the key that a line spells, where it spells one
 unfoldable pub key_of : List ℕ → Option Key
 key_of line = do
   first ← split_at_space line
@@ -46,6 +50,7 @@ key_of line = do
   words ← words_of first.1
   Some (key_with account words.0 words.1)
 
+-- what reading lines gives: keys, or the first fault
 abbrev pub Answer : Type 0
 Answer = Result (List Key) KeyFault
 
@@ -61,6 +66,7 @@ unfoldable pub with_line : ℕ → List Key → List ℕ → Answer
 with_line number keys line =
     if is_skipped line then Ok keys else with_key number keys (key_of line)
 
+-- what the next lines give, where those before gave keys
 abbrev pub and_then : Answer → (List Key → Answer) → Answer
 and_then (Ok keys) next = next keys
 and_then (Err fault) next = Err fault

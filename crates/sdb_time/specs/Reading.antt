@@ -4,6 +4,7 @@ use Rattle.std.specs.Char.{is_ascii_digit}
 use Rattle.sdb_time.specs.Parts.{Parts, Zone}
 
 infixl 10 ◌>>=◌
+-- what is read next, where the first reading gave something
 abbrev pub ◌>>=◌ : {A B : Type 0} → Option A → (A → Option B) → Option B
 None >>= f = None
 (Some x) >>= f = f x
@@ -27,6 +28,7 @@ field c text = do
   rest ← after c number.1
   Some (number.0, rest)
 
+-- a number of four digits at the front, and what follows it
 unfoldable pub four_digits : List ℕ → Option (ℕ × List ℕ)
 four_digits text = do
   high ← two_digits text
@@ -50,12 +52,14 @@ abbrev pub whole : Zone → List ℕ → Option Zone
 whole found [] = Some found
 whole found (b ∷ rest) = None
 
+-- a distance of hours and minutes, with nothing behind it
 unfoldable pub offset : Bool → List ℕ → Option Zone
 offset is_behind text = do
   hours ← field 58 text
   minutes ← two_digits hours.1
   whole (record { is_behind = is_behind; hours = hours.0; minutes = minutes.0 }) minutes.1
 
+-- the zone that a whole text spells: nothing, `Z`, or a sign and a distance
 unfoldable pub zone : List ℕ → Option Zone
 zone [] = Some (record { is_behind = false; hours = 0; minutes = 0 })
 zone (b ∷ rest) =
@@ -63,6 +67,7 @@ zone (b ∷ rest) =
     else (if b == 45 then offset true rest
     else (if b == 90 then whole (record { is_behind = false; hours = 0; minutes = 0 }) rest else None))
 
+-- the numbers of a text that has the form of a moment
 unfoldable pub parts : List ℕ → Option Parts
 parts text = do
   year ← four_digits text
