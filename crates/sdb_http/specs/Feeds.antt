@@ -69,6 +69,7 @@ given (Took None ∷ past) = given past
 given (Took (Some reply) ∷ past) = given past ++ reply ∷ []
 given (Back ∷ past) = given past
 
+-- the pieces that calls left, joined, are the replies that were taken, and then what is held
 abbrev pub ReadsCalls : List Call → List ℕ → Bool → Type 0
 ReadsCalls calls held ended = Reads (joined calls) (given calls) held ended
 
@@ -78,6 +79,7 @@ pub record StandsFor (s : State) (past : List Call) : Type 0 where
   pub back : MatchOption s.before (can_go_back past ≡ false)
       (λ b. (can_go_back past ≡ true) × ReadsCalls (before_push (left past)) b.0 b.1)
 
+-- what is held after a piece more
 abbrev pub held_after : List ℕ → Bool → List ℕ → List ℕ
 held_after held ended piece = if ended then [] else trim (held ++ piece)
 

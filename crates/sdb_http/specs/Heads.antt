@@ -23,6 +23,7 @@ pub record Parts : Type 0 where
   pub minor : ℕ
   pub fields : HeaderFields
 
+-- the parts that rules look at
 abbrev pub parts_of : RequestHead → Parts
 parts_of h = record { method = h.method; target = h.target; minor = h.minor; fields = map name_and_value h.fields }
 
@@ -34,6 +35,7 @@ pub record Shape : Type 0 where
   pub length : ℕ
   pub close : Bool
 
+-- what a head asks for, or the fault that it is
 abbrev pub Verdict : Type 0
 Verdict = Result Shape HttpFault
 
@@ -93,6 +95,7 @@ abbrev pub no_values : List (List ℕ) → Result (Unit {0}) HttpFault
 no_values [] = Ok tt
 no_values (value ∷ more) = Err Invalid
 
+-- the verb of a method: GET and POST are known
 abbrev pub verb_of : List ℕ → Result Verb HttpFault
 verb_of method =
     if bytes_eq method get_word then Ok Get else (if bytes_eq method post_word then Ok Post else Err Invalid)

@@ -49,6 +49,7 @@ pub record IsMarkOf (bytes : List ℕ) (mark : Mark) : Type 0 where
   pub len : mark.len ≤ length bytes
   pub at_front : IsFrontOf (take mark.len bytes) mark.front
 
+-- the front and the mark of a feed are true of its bytes
 pub record IsFeed (bytes : List ℕ) (front : Front) (mark : Option Mark) : Type 0 where
   pub at_front : IsFrontOf bytes front
   pub at_mark : MatchOption mark ⊤ (IsMarkOf bytes)
@@ -57,6 +58,7 @@ pub record IsFeed (bytes : List ℕ) (front : Front) (mark : Option Mark) : Type
 abbrev pub held_by : List ℕ → Front → Bool → List ℕ
 held_by bytes front ended = if ended then [] else held_from bytes front
 
+-- what was held before the last push, and whether the feed had ended
 abbrev pub before_by : List ℕ → Option Mark → Option (List ℕ × Bool)
 before_by bytes mark = option_map (λ m. (held_by (take m.len bytes) m.front m.ended, m.ended)) mark
 
@@ -78,6 +80,7 @@ pub record IsPushed (held piece bytes : List ℕ) (at : Front) (len : ℕ) : Typ
 abbrev pub seen : Message → Seen
 seen m = record { verb = m.verb; host = m.host.bytes; form = m.form.bytes; close = m.close }
 
+-- the reply that a value of the program stands for
 abbrev pub reply_of : Result Message HttpFault → Reply
 reply_of (Ok m) = Ok (seen m)
 reply_of (Err fault) = Err fault

@@ -46,10 +46,12 @@ parts_at head spans headers = record {
   fields = map (header_bytes head) headers;
 }
 
+-- the verdict that a layout stands for in these bytes
 abbrev pub verdict_at : List ℕ → Result Layout HttpFault → Verdict
 verdict_at head (Ok l) = Ok (shape_at head l)
 verdict_at head (Err fault) = Err fault
 
+-- the bytes of a span, where there is one
 abbrev pub bytes_at : List ℕ → Result Span HttpFault → Result (List ℕ) HttpFault
 bytes_at head (Ok span) = Ok (span_bytes head span)
 bytes_at head (Err fault) = Err fault

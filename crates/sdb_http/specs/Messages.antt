@@ -59,6 +59,7 @@ abbrev pub form_of : Verb → List ℕ → List ℕ → List ℕ
 form_of Get query body = query
 form_of Post query body = body
 
+-- the message of a head and its body
 abbrev pub message_of : Shape → List ℕ → Seen
 message_of shape body =
     record { verb = shape.verb; host = shape.host; form = form_of shape.verb shape.query body; close = shape.close }

@@ -21,6 +21,7 @@ head_end = codes "\r\n\r\n"
 unfoldable pub phrase_of : ℕ → List ℕ
 phrase_of status = unwrap_or (reason_phrase status) []
 
+-- the header line of a connection that is closed
 abbrev pub close_lines : Bool → List ℕ
 close_lines close = if close then close_line else []
 

@@ -1,3 +1,5 @@
+//! Why bytes are no requests.
+
 use thiserror::Error;
 
 /// Why the bytes of a connection are no request. The answer closes the connection.

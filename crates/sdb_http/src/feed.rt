@@ -1,3 +1,5 @@
+//! The feed: bytes of a connection in, requests out.
+
 ghost use Rattle.std.specs.Prelude.{◌≡◌, ◌∷◌, ◌≤◌, ◌<◌, vec_len, vec_capacity, IfNone, IfOk, IsSome, List, OnErr, OnOk, OnSome, drop, length, ◌+◌, if◌then◌else◌};
 ghost use Rattle.sdb_http.specs.Feeds.{AreAll, Back, Call, GoesBack, Pushed, StandsFor, Takes, Took, empty_feed, given, joined, left, pushed, work};
 ghost use Rattle.sdb_http.specs.Inside.{IsFrontOf, held_from, taken};
@@ -11,14 +13,14 @@ use sdb_base::OutOfMemory;
 use std::alloc::Global;
 use std::marker::Model;
 
-/// Where the held bytes begin, and what is known of the head there.
+// Where the held bytes begin, and what is known of the head there.
 #[derive(Clone, Copy, Debug)]
 pub(crate) struct Front {
     pub start: usize,
     pub known: Known,
 }
 
-/// What `back` goes back to: how it was before the last push.
+// What `back` goes back to: how it was before the last push.
 #[derive(Clone, Copy, Debug)]
 pub(crate) struct Mark {
     pub front: Front,
@@ -186,7 +188,7 @@ impl Feed {
     }
 }
 
-/// How many bytes stand after a whole message, without CR and LF at their front.
+// How many bytes stand after a whole message, without CR and LF at their front.
 fn rest_len(held: &[u8], last: usize, layout: &Layout) -> usize
     requires { last + 1 + layout.now.length ≤ length held.now }
     ensures { result ≡ length (trim (drop layout.now.length (drop (last + 1) held.now))) }
@@ -196,8 +198,8 @@ fn rest_len(held: &[u8], last: usize, layout: &Layout) -> usize
     trim(rest).len()
 }
 
-/// Drops the bytes before the front once they are more than half of all, so that each byte is moved a
-/// bounded number of times, and gives the front as it is then.
+// Drops the bytes before the front once they are more than half of all, so that each byte is moved a
+// bounded number of times, and gives the front as it is then.
 fn compact(bytes: &mut Vec<u8>, front: Front) -> Front
     requires { IsFrontOf bytes.old.items front }
     ensures at_front { IsFrontOf bytes.new.items result }
@@ -215,14 +217,14 @@ fn compact(bytes: &mut Vec<u8>, front: Front) -> Front
     }
 }
 
-/// The bytes of a piece that are kept: after a whole head began, all.
+// The bytes of a piece that are kept: after a whole head began, all.
 fn unless_skipped(is_fresh: bool, piece: &[u8]) -> &[u8]
     ensures { result.now ≡ (if is_fresh then trim piece.now else piece.now) }
 {
     if is_fresh { trim(piece) } else { piece }
 }
 
-/// The bytes without CR and LF at their front.
+// The bytes without CR and LF at their front.
 fn trim(bytes: &[u8]) -> &[u8]
     ensures { result.now ≡ trim bytes.now }
 {
@@ -233,7 +235,7 @@ fn trim(bytes: &[u8]) -> &[u8]
     left
 }
 
-/// Drops the first `start` bytes.
+// Drops the first `start` bytes.
 fn drop_front(bytes: &mut Vec<u8>, start: usize)
     requires { start ≤ length bytes.old.items }
     ensures items { bytes.new.items ≡ drop start bytes.old.items }

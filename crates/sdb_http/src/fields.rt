@@ -1,3 +1,5 @@
+//! Looking up header lines by their names.
+
 ghost use Rattle.std.specs.Prelude.{◌≡◌, ◌≤◌, All, length, map, reverse};
 ghost use Rattle.std.specs.List.{list_any};
 ghost use Rattle.httparse.specs.Grammar.{skip_ows, trim_ows};
@@ -9,7 +11,7 @@ use crate::layout::Values;
 use crate::words::{close_word, connection};
 use httparse::spans::{HeaderSpan, Span};
 
-/// The value of the header lines of a name, written in lower case.
+// The value of the header lines of a name, written in lower case.
 pub(crate) fn find_values(head: &[u8], headers: &[HeaderSpan], name: &[u8]) -> Values
     requires { All (IsHeaderWithin (length head.now)) headers.now }
     ensures { AreValues head.now (values_of name.now (map (header_bytes head.now) headers.now)) result }
@@ -32,14 +34,14 @@ fn and_one(found: Values, value: Span) -> Values
     }
 }
 
-/// Whether two names are equal but for the case of ASCII letters.
+// Whether two names are equal but for the case of ASCII letters.
 pub(crate) fn same_name(a: &[u8], b: &[u8]) -> bool
     ensures { result ≡ same_name a.now b.now }
 {
     a.eq_ignore_ascii_case(b)
 }
 
-/// Whether a Connection header asks for the connection to be closed.
+// Whether a Connection header asks for the connection to be closed.
 pub(crate) fn asks_close(head: &[u8], headers: &[HeaderSpan]) -> bool
     requires { All (IsHeaderWithin (length head.now)) headers.now }
     ensures { result ≡ list_any lists_close (values_of connection (map (header_bytes head.now) headers.now)) }
@@ -64,7 +66,7 @@ fn is_close(part: &[u8]) -> bool
     same_name(close_word(), trim_ows(part))
 }
 
-/// The bytes without spaces and tabs at both ends.
+// The bytes without spaces and tabs at both ends.
 #[tactic(auto, unfolding(httparse::specs::Grammar::trim_ows))]
 fn trim_ows(bytes: &[u8]) -> &[u8]
     ensures { result.now ≡ trim_ows bytes.now }

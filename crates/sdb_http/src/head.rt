@@ -1,3 +1,5 @@
+//! Where a head ends, and the verdict on its bytes.
+
 ghost use Rattle.std.specs.Prelude.{◌≡◌, ℕ, ◌<◌, IfOk, MatchOption, length, false};
 ghost use Rattle.sdb_http.specs.Heads.{Judged};
 ghost use Rattle.sdb_http.specs.Layouts.{IsLayoutWithin, verdict_at};
@@ -9,11 +11,11 @@ use crate::verdict::verdict;
 use httparse::Status;
 use httparse::spans::{EMPTY_HEADER_SPAN, parse_request};
 
-/// A head has at most so many bytes.
+// A head has at most so many bytes.
 pub(crate) const HEAD_LIMIT: usize = 16_384;
 
-/// Where the last byte of the head stands, that of its first blank line, among the first 16,384 bytes.
-/// It is known that the head doesn't end before `from`, so a head that comes in pieces is scanned once.
+// Where the last byte of the head stands, that of its first blank line, among the first 16,384 bytes.
+// It is known that the head doesn't end before `from`, so a head that comes in pieces is scanned once.
 pub(crate) fn find_end(held: &[u8], from: usize) -> Option<usize>
     requires { (k : ℕ) → k < from → closes_head held.now k ≡ false }
     ensures { MatchOption result
@@ -29,7 +31,7 @@ pub(crate) fn find_end(held: &[u8], from: usize) -> Option<usize>
     None
 }
 
-/// Whether the byte at `at` closes a blank line.
+// Whether the byte at `at` closes a blank line.
 fn closes_head(held: &[u8], at: usize) -> bool
     requires { at < length held.now }
     ensures { result ≡ closes_head held.now at }
@@ -39,7 +41,7 @@ fn closes_head(held: &[u8], at: usize) -> bool
             || (2 <= at && held[at - 1] == b'\r' && held[at - 2] == b'\n'))
 }
 
-/// The verdict on the bytes of a whole head.
+// The verdict on the bytes of a whole head.
 pub(crate) fn judge(head: &[u8]) -> Result<Layout, HttpFault>
     ensures judged { Judged head.now (verdict_at head.now result) }
     ensures within { IfOk result (IsLayoutWithin (length head.now)) }

@@ -1,3 +1,5 @@
+//! The laws of messages in a stream of bytes.
+
 ghost use Rattle.std.specs.Prelude.{◌≡◌, ℕ, List, [], ◌++◌, Ok};
 ghost use Rattle.sdb_http.specs.Feeds.{AreAll};
 ghost use Rattle.sdb_http.specs.Messages.{IsFront, Reply, Seen, trim};

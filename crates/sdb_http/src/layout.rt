@@ -1,20 +1,22 @@
+//! The parts of a lawful head, as places in its bytes.
+
 use httparse::spans::Span;
 use sdb_base::Verb;
 
-/// What a lawful head asks for, as places in its bytes.
+// What a lawful head asks for, as places in its bytes.
 #[derive(Clone, Copy, Debug)]
 pub(crate) struct Layout {
     pub verb: Verb,
     pub host: Span,
-    /// The bytes after `/?`, or none.
+    // The bytes after `/?`, or none.
     pub query: Span,
-    /// How many bytes the body has.
+    // How many bytes the body has.
     pub length: usize,
-    /// Whether the connection is closed after the answer.
+    // Whether the connection is closed after the answer.
     pub close: bool,
 }
 
-/// How often a name stands among the header lines, and its value where it stands once.
+// How often a name stands among the header lines, and its value where it stands once.
 #[derive(Clone, Copy, Debug)]
 pub(crate) enum Values {
     Absent,

@@ -1,3 +1,5 @@
+//! What stands at the front of the bytes that a feed holds.
+
 ghost use Rattle.std.specs.Prelude.{◌≡◌, ◌+◌, ◌≤◌, IfOk, length, take, drop};
 ghost use Rattle.sdb_http.specs.Inside.{HasLayout, IsKnown, Looks, seen};
 ghost use Rattle.sdb_http.specs.Layouts.{shape_at};
@@ -10,26 +12,26 @@ use crate::message::Message;
 use sdb_base::{Bytes, OutOfMemory, Verb};
 use std::alloc::Global;
 
-/// What is known of the head at the front of the held bytes.
+// What is known of the head at the front of the held bytes.
 #[derive(Clone, Copy, Debug)]
 pub(crate) enum Known {
-    /// It doesn't end among so many bytes.
+    // It doesn't end among so many bytes.
     Scanned(usize),
-    /// The place of its last byte, and its lawful parts.
+    // The place of its last byte, and its lawful parts.
     Judged(usize, Layout),
 }
 
-/// What stands at the front of the held bytes.
+// What stands at the front of the held bytes.
 #[derive(Clone, Copy, Debug)]
 pub(crate) enum Found {
-    /// No whole message and no fault; what is known of its head.
+    // No whole message and no fault; what is known of its head.
     More(Known),
     Fault(HttpFault),
-    /// A whole message: the place of its head's last byte, and its parts.
+    // A whole message: the place of its head's last byte, and its parts.
     Whole(usize, Layout),
 }
 
-/// Looks at the front of the held bytes, going on from what is known. It takes no memory.
+// Looks at the front of the held bytes, going on from what is known. It takes no memory.
 pub(crate) fn look(held: &[u8], known: Known) -> Found
     requires trimmed { trim held.now ≡ held.now }
     requires known { IsKnown held.now known }
@@ -68,7 +70,7 @@ fn look_for_body(held: &[u8], last: usize, layout: Layout) -> Found
     }
 }
 
-/// The message whose parts stand at these places.
+// The message whose parts stand at these places.
 pub(crate) fn message_at(
     alloc: Global,
     held: &[u8],

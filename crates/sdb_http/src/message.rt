@@ -1,3 +1,5 @@
+//! Requests as they came over a connection.
+
 use sdb_base::{Bytes, Verb};
 
 /// A request as it came over a connection.

@@ -1,3 +1,5 @@
+//! The bytes of responses.
+
 ghost use Rattle.std.specs.Prelude.{◌≡◌, ◌++◌, IfOk, OnOk, decimal};
 ghost use Rattle.http.specs.StatusCode.{code_digits};
 ghost use Rattle.sdb_http.specs.Responses.{close_line, close_lines, head_end, phrase_of, response_text, space_word, type_lines, version_word};
@@ -7,7 +9,7 @@ use http::StatusCode;
 use sdb_base::{Bytes, OutOfMemory};
 use std::alloc::Global;
 
-/// More bytes than any head of a response has.
+// More bytes than any head of a response has.
 const HEAD_ROOM: usize = 192;
 
 /// The bytes of a response: status line, type and length of the body, and the body. The status is 200 or one

@@ -8,7 +8,7 @@ use std::alloc::Global;
 use std::process::Abort;
 use std::test::Fail;
 
-/// The fault that is taken first from these bytes.
+// The fault that is taken first from these bytes.
 fn fault_of(alloc: Global, bytes: &[u8]) -> Result<Option<HttpFault>, Fail> {
     let mut feed = Feed::new(alloc);
     feed.push(bytes)?;
@@ -18,7 +18,7 @@ fn fault_of(alloc: Global, bytes: &[u8]) -> Result<Option<HttpFault>, Fail> {
     }
 }
 
-/// Takes a request and asserts its form, or that none is there.
+// Takes a request and asserts its form, or that none is there.
 fn expect_form(rt: &impl Abort, feed: &mut Feed, form: Option<&[u8]>) -> Result<(), Fail>
     ensures { OnOk result (feed.new.before ≡ feed.old.before) }
 {

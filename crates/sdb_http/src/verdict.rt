@@ -1,3 +1,5 @@
+//! The rules on the parts of a head, in their order.
+
 ghost use Rattle.std.specs.Prelude.{◌≡◌, All, IfOk, length, map};
 ghost use Rattle.std.specs.Char.{is_ascii_digit};
 ghost use Rattle.std.specs.List.{list_all};
@@ -12,10 +14,10 @@ use crate::words::{content_length, host_name, transfer_encoding};
 use httparse::spans::{HeaderSpan, RequestSpans, Span};
 use sdb_base::Verb;
 
-/// The most bytes of a body.
+// The most bytes of a body.
 const MOST_BODY: usize = 1_048_576;
 
-/// The verdict on the parts of a head that the grammar accepts: the first fault in the order of the rules.
+// The verdict on the parts of a head that the grammar accepts: the first fault in the order of the rules.
 #[tactic(auto, unfolding(crate::specs::Heads::verdict))]
 pub(crate) fn verdict(
     head: &[u8],
@@ -66,7 +68,7 @@ fn length_of(head: &[u8], headers: &[HeaderSpan]) -> Result<usize, HttpFault>
     }
 }
 
-/// The length that a Content-Length header gives: 1 to 10 digits, leading zeros among them.
+// The length that a Content-Length header gives: 1 to 10 digits, leading zeros among them.
 fn length_in(value: &[u8]) -> Result<usize, HttpFault>
     ensures { result ≡ length_in value.now }
 {
@@ -112,7 +114,7 @@ fn verb_of(method: &[u8]) -> Result<Verb, HttpFault>
     Err(HttpFault::Invalid)
 }
 
-/// The query of the target `/`, which is empty, or of `/?` and a query.
+// The query of the target `/`, which is empty, or of `/?` and a query.
 fn query_of(head: &[u8], path: Span) -> Result<Span, HttpFault>
     requires { IsWithin (length head.now) path }
     ensures value { bytes_at head.now result ≡ query_of (span_bytes head.now path) }
@@ -131,7 +133,7 @@ fn query_of(head: &[u8], path: Span) -> Result<Span, HttpFault>
     }
 }
 
-/// The form of a POST is its body, so its target has no query.
+// The form of a POST is its body, so its target has no query.
 fn query_for(head: &[u8], verb: Verb, query: Span) -> Result<Span, HttpFault>
     requires { IsWithin (length head.now) query }
     ensures value { bytes_at head.now result ≡ query_for verb (span_bytes head.now query) }

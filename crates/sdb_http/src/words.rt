@@ -1,3 +1,5 @@
+//! The names and words of headers that rules speak of.
+
 ghost use Rattle.std.specs.Prelude.{◌≡◌};
 ghost use Rattle.sdb_http.specs.Heads.{close_word, connection, content_length, host_name, transfer_encoding};
 

@@ -8,9 +8,11 @@ use Rattle.sdb_keys.specs.declared.keys.Key.{Key}
 abbrev pub find_key : List Key → List ℕ → Option Key
 find_key keys id = find (λ key. bytes_eq id key.id) keys
 
+-- what is found under the id of a key
 abbrev pub account_and_secret : Key → ℕ × List ℕ
 account_and_secret key = (key.account, key.secret)
 
+-- the ids of keys, in their order
 abbrev pub ids_of : List Key → List (List ℕ)
 ids_of keys = map (λ (key : Key). key.id) keys
 

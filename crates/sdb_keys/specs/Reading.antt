@@ -12,6 +12,7 @@ use Rattle.sdb_base.specs.Ascii.{space}
 use Rattle.sdb_keys.specs.File.{is_word, is_secret_byte, is_skipped}
 use Rattle.sdb_keys.specs.Keys.{is_known}
 
+-- the byte between the words of a line
 abbrev pub is_space : ℕ → Bool
 is_space b = b == space
 
@@ -34,9 +35,11 @@ words_of text = do
   words ← split_at_space text
   if is_word is_ascii_alphanumeric words.0 && is_word is_secret_byte words.1 then Some words else None
 
+-- the key of this account, id and secret
 abbrev pub key_with : ℕ → List ℕ → List ℕ → Key
 key_with account id secret = record { account = account; id = id; secret = secret }
 
+-- the key that a line spells, where it spells one
 unfoldable pub key_of : List ℕ → Option Key
 key_of line = do
   first ← split_at_space line
@@ -44,6 +47,7 @@ key_of line = do
   words ← words_of first.1
   Some (key_with account words.0 words.1)
 
+-- what reading lines gives: keys, or the first fault
 abbrev pub Answer : Type 0
 Answer = Result (List Key) KeyFault
 

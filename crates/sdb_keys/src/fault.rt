@@ -1,3 +1,5 @@
+//! Why keys files are refused.
+
 ghost use Rattle.std.specs.Prelude.{◌≡◌};
 ghost use Rattle.sdb_keys.specs.declared.fault.KeyFault.TheVariants as variant;
 

@@ -1,3 +1,5 @@
+//! Reading a keys file, line after line.
+
 ghost use Rattle.std.specs.Prelude.{◌≡◌, ◌≢◌, ◌↔◌, ℕ, List, [], Ok, Err, MatchResult};
 ghost use Rattle.sdb_keys.specs.declared.keys.Key.{Key};
 ghost use Rattle.sdb_keys.specs.File.{file_lines, is_skipped, AreRight, IsBadLine, IsDoubled, IsOneTooMany};
@@ -20,7 +22,7 @@ fn is_skipped_line(line: &[u8]) -> bool
     }
 }
 
-/// Puts the key of a line to the others.
+// Puts the key of a line to the others.
 #[tactic(auto, unfolding(crate::specs::Reading::with_line))]
 fn read_line(alloc: Global, keys: &mut Keys, number: u64, line: &[u8]) -> Result<(), KeyFault>
     ensures { MatchResult result

@@ -1,3 +1,5 @@
+//! Keys, and how one is found by its id.
+
 ghost use Rattle.std.specs.Prelude.{◌≡◌, ◌↔◌, ◌∷◌, ◌++◌, [], length, Contains, IsNone, OnOk, OnErr};
 ghost use Rattle.std.specs.Option.{option_map};
 
@@ -31,7 +33,7 @@ impl Model for Keys {
 impl Keys {
     ghost use Rattle.sdb_keys.specs.Keys.{find_key, ids_of, is_known, account_and_secret};
 
-    /// No keys. It takes no memory.
+    // No keys. It takes no memory.
     pub(crate) fn new(alloc: Global) -> Keys
         ensures { result ≡ [] }
     {

@@ -1,3 +1,5 @@
+//! The law of the keys file.
+
 ghost use Rattle.std.specs.Prelude.{◌≡◌, ℕ, List};
 ghost use Rattle.sdb_keys.specs.declared.keys.Key.{Key};
 ghost use Rattle.sdb_keys.specs.File.{SpellsKey};

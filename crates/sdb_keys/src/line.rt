@@ -1,3 +1,5 @@
+//! Reading one line of a keys file.
+
 ghost use Rattle.std.specs.Prelude.{◌≡◌, ◌&&◌, nat_le, length, position, IfOk, IfSome, IsUtf8, MatchOption};
 ghost use Rattle.std.specs.Option.{option_map};
 ghost use Rattle.std.specs.Char.{is_ascii_alphanumeric};
@@ -18,7 +20,7 @@ fn space_at(line: &[u8]) -> Option<usize>
     line.iter().position(|b| *b == b' ')
 }
 
-/// What stands before the first space and after it.
+// What stands before the first space and after it.
 fn split_at_space(line: &[u8]) -> Option<(&[u8], &[u8])>
     ensures { option_map (λ parts. (parts.0.now, parts.1.now)) result ≡ reading.split_at_space line.now }
 {

@@ -1,3 +1,5 @@
+//! The kinds of bytes, and runs of them.
+
 ghost use Rattle.std.specs.Prelude.{◌≡◌, ◌==◌, ◌≤◌, length};
 ghost use Rattle.std.specs.Char.{is_ascii_digit};
 ghost use Rattle.sdb_lex.specs.Bytes.{blank, word, sign, plain, comparing, begins, run};

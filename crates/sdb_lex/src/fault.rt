@@ -1,3 +1,5 @@
+//! Why texts have no tokens.
+
 ghost use Rattle.std.specs.Prelude.{◌≡◌};
 ghost use Rattle.sdb_lex.specs.declared.fault.LexFault.TheVariants.{OutOfMemory as out_of_memory};
 

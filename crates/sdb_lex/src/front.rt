@@ -1,3 +1,5 @@
+//! The token, or the fault, at the front of a text.
+
 ghost use Rattle.std.specs.Prelude.{◌≡◌, ◌<◌, ◌≤◌, false, length, IfSome};
 ghost use Rattle.sdb_lex.specs.Bytes.{run};
 ghost use Rattle.sdb_lex.specs.Fronts.{closing, front_of, digits_front, enclosed_front, symbol_front};

@@ -1,3 +1,5 @@
+//! Cutting a whole text into its tokens.
+
 ghost use Rattle.std.specs.Prelude.{◌≡◌, ◌≢◌, Err, IfOk, length};
 ghost use Rattle.sdb_lex.specs.Tokens.{AreSpans, Cuts};
 

@@ -1,3 +1,5 @@
+//! Texts with their tokens, the first faults with their places, and the class of each ASCII byte.
+
 use super::*;
 use sdb_base::Text;
 use std::alloc::Global;

@@ -1,3 +1,5 @@
+//! Tokens.
+
 use sdb_base::List;
 
 /// What a token is.

@@ -23,6 +23,7 @@ abbrev pub escaped_byte : ℕ → List ℕ
 escaped_byte b =
     if is_unreserved b then b ∷ [] else percent ∷ hex_digit (b / 16) ∷ hex_digit (b % 16) ∷ []
 
+-- a text with the escapes of the canonical query
 unfoldable pub escaped : List ℕ → List ℕ
 escaped text = flat_map escaped_byte text
 
@@ -54,6 +55,7 @@ written param = escaped param.0 ++ equals_sign ∷ escaped param.1
 abbrev pub canonical_query : NamedValues → List ℕ
 canonical_query params = join_by written (ampersand ∷ []) (signed_params params)
 
+-- the first line of the text to sign
 abbrev pub verb_word : Verb → List ℕ
 verb_word Get = codes "GET"
 verb_word Post = codes "POST"

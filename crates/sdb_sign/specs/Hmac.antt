@@ -18,5 +18,6 @@ block_key key = short_key key ++ replicate (block_size - length (short_key key))
 abbrev pub pad : ℕ → List ℕ → List ℕ
 pad mask key = map (λ b. bit_xor b mask) (block_key key)
 
+-- the HMAC of a message under a key (RFC 2104)
 unfoldable pub hmac : List ℕ → List ℕ → List ℕ
 hmac key message = sha256 (pad 0x5c key ++ sha256 (pad 0x36 key ++ message))

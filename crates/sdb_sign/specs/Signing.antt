@@ -67,6 +67,7 @@ one_moment (Some timestamp) (Some expires) = Err InvalidParameterCombination
 abbrev pub is_supported : List ℕ → List ℕ → Bool
 is_supported version method = bytes_eq version version_word && bytes_eq method method_word
 
+-- what the parameters say of the signature, or the first refusal of what they lack
 unfoldable pub claim_of : NamedValues → Result Claimed Refusal
 claim_of params = do
   key_id ← needed params key_id_name

@@ -1,3 +1,5 @@
+//! The text to sign, with its canonical query.
+
 ghost use Rattle.std.specs.Prelude.{◌≡◌, [], ◌++◌, ◌∷◌, IfOk, OnOk, map};
 ghost use Rattle.std.specs.List.{join_by};
 ghost use Rattle.std.specs.Map.Iter.{deref_pair};
@@ -10,7 +12,7 @@ use sdb_base::{Bytes, OutOfMemory, Params, Verb};
 use std::alloc::Global;
 use std::collections::BTreeMap;
 
-/// All ASCII bytes but the unreserved ones.
+// All ASCII bytes but the unreserved ones.
 const RESERVED: AsciiSet = ascii_set!(
     NON_ALPHANUMERIC
         .remove(b'-')
@@ -54,7 +56,7 @@ fn verb_word(verb: Verb) -> &'static [u8]
     }
 }
 
-/// The parameters that are signed, by name.
+// The parameters that are signed, by name.
 fn signed_params<'p>(
     alloc: Global,
     params: &'p Params,
@@ -77,7 +79,7 @@ fn is_signed_name(name: &str) -> bool
     name != signature_name()
 }
 
-/// Puts the parameters at the end, joined by `&`.
+// Puts the parameters at the end, joined by `&`.
 fn append_query(text: &mut Bytes, rising: &BTreeMap<&str, &str>) -> Result<(), OutOfMemory>
     ensures { OnOk result (text.new.bytes
         ≡ text.old.bytes ++ join_by written (ampersand ∷ []) (map deref_pair rising.now.entries)) }

@@ -1,3 +1,5 @@
+//! What parameters say of the signature of their request.
+
 ghost use Rattle.std.specs.Prelude.{◌≡◌, MatchResult, Ok, Err};
 ghost use Rattle.sdb_base.specs.Pairs.{value_of};
 ghost use Rattle.sdb_sign.specs.Claims.{seen};
@@ -10,16 +12,16 @@ use crate::words::{
 use sdb_base::{Params, Text};
 use sdb_tables::Refusal;
 
-/// How the moment of a request limits it.
+// How the moment of a request limits it.
 #[derive(Clone, Copy, Debug, PartialEq, Eq)]
 pub(crate) enum MomentKind {
-    /// The moment at which it was signed.
+    // The moment at which it was signed.
     Timestamp,
-    /// The last moment at which it is accepted.
+    // The last moment at which it is accepted.
     Expires,
 }
 
-/// What a request says of its signature.
+// What a request says of its signature.
 #[derive(Clone, Copy)]
 pub(crate) struct Claim<'p> {
     pub key_id: &'p Text,
@@ -28,7 +30,7 @@ pub(crate) struct Claim<'p> {
     pub signature: &'p Text,
 }
 
-/// What the parameters say of the signature, or the first refusal of what they lack.
+// What the parameters say of the signature, or the first refusal of what they lack.
 #[tactic(auto, unfolding(crate::specs::Signing::claim_of))]
 pub(crate) fn claim_of(params: &Params) -> Result<Claim<'_>, Refusal>
     ensures { MatchResult result
@@ -62,7 +64,7 @@ fn needed<'p>(params: &'p Params, name: &str) -> Result<&'p Text, Refusal>
     }
 }
 
-/// The one moment that a request names.
+// The one moment that a request names.
 fn one_moment(params: &Params) -> Result<(MomentKind, &Text), Refusal>
     ensures { MatchResult result
         (λ found. one_moment (value_of params.now timestamp_name) (value_of params.now expires_name) ≡ Ok (found.0, found.1.now))

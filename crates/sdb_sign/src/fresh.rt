@@ -1,3 +1,5 @@
+//! Whether the moment of a request is fresh.
+
 ghost use Rattle.std.specs.Prelude.{◌≡◌, ℕ, Option, IfNone, IfSome};
 ghost use Rattle.sdb_time.specs.Moments.{IsMomentText};
 ghost use Rattle.sdb_sign.specs.Fresh.{ReadsAs, in_time, is_fresh};
@@ -7,10 +9,10 @@ use sdb_base::Text;
 use sdb_tables::Refusal;
 use sdb_time::read_moment;
 
-/// The seconds that a Timestamp may lie before or after the moment at which the request came.
+// The seconds that a Timestamp may lie before or after the moment at which the request came.
 const MOST_SKEW: u64 = 900;
 
-/// Refuses a moment that can't be read or isn't fresh at `now`.
+// Refuses a moment that can't be read or isn't fresh at `now`.
 pub(crate) fn check_moment(kind: MomentKind, text: &Text, now: u64) -> Result<(), Refusal>
     ensures { (read : Option ℕ) × ReadsAs text.now read × (result ≡ in_time kind now read) }
 {

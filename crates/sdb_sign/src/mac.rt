@@ -1,9 +1,11 @@
+//! HMAC over SHA-256.
+
 ghost use Rattle.std.specs.Prelude.{◌≡◌, ◌≤◌, ◌-◌, ◌++◌, length, map, replicate, bit_xor};
 ghost use Rattle.sdb_sign.specs.Hmac.{block_key, hmac};
 
 use sha2::{Digest, Sha256};
 
-/// The bytes in a block of SHA-256.
+// The bytes in a block of SHA-256.
 const BLOCK: usize = 64;
 
 /// The HMAC of a message under a key (RFC 2104) over SHA-256. It takes no memory.
@@ -21,7 +23,7 @@ pub fn hmac(key: &[u8], message: &[u8]) -> [u8; 32]
     outer.finalize()
 }
 
-/// The key as a block: hashed where it is longer, and filled with zeros.
+// The key as a block: hashed where it is longer, and filled with zeros.
 #[tactic(auto, unfolding(crate::specs::Hmac::block_key))]
 fn block_key(key: &[u8]) -> [u8; 64]
     ensures { result ≡ block_key key.now }

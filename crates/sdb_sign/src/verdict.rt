@@ -1,3 +1,5 @@
+//! The verdict on a signed request: whose key signed it, or why it is refused.
+
 ghost use Rattle.std.specs.Prelude.{◌≡◌, ◌≢◌, ◌↔◌, ℕ, Ok, Err, IfOk};
 ghost use Rattle.std.specs.declared.result.Result.{Result};
 ghost use Rattle.std.specs.Str.{bytes_eq};

@@ -1,3 +1,5 @@
+//! The names and values of a signature's parameters.
+
 ghost use Rattle.std.specs.Prelude.{◌≡◌};
 ghost use Rattle.sdb_sign.specs.Canon.{signature_name};
 ghost use Rattle.sdb_sign.specs.Signing.{expires_name, key_id_name, method_name, method_word, timestamp_name, version_name, version_word};

@@ -15,7 +15,9 @@ pub record Fault : Type 0 where
 abbrev pub seen : FaultRow → Fault
 seen row = record { code = row.code.now; status = row.status; message = row.message.now }
 
--- the table. The order of its rows says nothing of which refusal comes first
+-- The table. Its rows don't stand in the order in which refusals are looked for, which is: 1 message, 2 form, 3 action,
+-- 4 version, 5 signature, 6 access, 7 fields row by row, then lists, expectation, Select expression and token,
+-- 8 domain, 9 expectation against the item, 10 limits. A missing field can so come before a wrong one, and after it.
 unfoldable pub faults : List Fault
 faults =
     record { code = codes "InvalidHttpRequest"; status = 400; message = codes "The HTTP request is invalid." }

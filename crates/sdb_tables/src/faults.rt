@@ -19,8 +19,20 @@ pub struct FaultRow {
     pub message: &'static str,
 }
 
-/// The fault table. Its order is the order of these rows alone: which refusal comes first where several hold is
-/// the matter of those who refuse (docs/PROFILE.md, "Refusals").
+/// The fault table. Its rows don't stand in the order in which refusals are looked for. Where several hold of a
+/// request, the first of these steps decides, each in the order of its own section of docs/PROFILE.md:
+///
+/// 1. the message: `URITooLong`, `InvalidHttpRequest`, `RequestTooLong`
+/// 2. its form: `InvalidParameterValue`, then `InvalidParameterCombination`
+/// 3. the action: `MissingParameter`, `InvalidAction`
+/// 4. the version: `MissingParameter`, `NoSuchVersion`
+/// 5. the signature: `AuthMissingFailure` to `SignatureDoesNotMatch`
+/// 6. the access: `AccessFailure`
+/// 7. the fields row by row, `MissingParameter` or `InvalidParameterValue` of each; then lists, expectation,
+///    Select expression and token
+/// 8. the domain: `NoSuchDomain`
+/// 9. the expectation against the item: `AttributeDoesNotExist`, `MultiValuedAttribute`, `ConditionalCheckFailed`
+/// 10. the limits on what an item, a domain and an account hold
 pub const FAULTS: [FaultRow; 35] = [
     FaultRow {
         code: "InvalidHttpRequest",

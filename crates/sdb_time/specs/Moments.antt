@@ -27,12 +27,15 @@ pub record IsOffset (text : List ℕ) (hours minutes : ℕ) : Type 0 where
   pub hour_is : IsNumber 2 hour hours
   pub minute_is : IsNumber 2 minute minutes
 
+-- the zone without a distance
 abbrev pub utc_time : Zone
 utc_time = record { is_behind = false; hours = 0; minutes = 0 }
 
+-- the zone whose clocks are ahead of UTC by so many hours and minutes
 abbrev pub ahead_by : ℕ → ℕ → Zone
 ahead_by hours minutes = record { is_behind = false; hours = hours; minutes = minutes }
 
+-- the zone whose clocks are behind UTC by so many hours and minutes
 abbrev pub behind_by : ℕ → ℕ → Zone
 behind_by hours minutes = record { is_behind = true; hours = hours; minutes = minutes }
 

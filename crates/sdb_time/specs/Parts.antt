@@ -7,6 +7,7 @@ pub record Zone : Type 0 where
   pub hours : ℕ
   pub minutes : ℕ
 
+-- the numbers of a moment's text
 pub record Parts : Type 0 where
   pub year : ℕ
   pub month : ℕ

@@ -23,6 +23,7 @@ field c text = do
   rest ← after_byte c number.1
   Some (number.0, rest)
 
+-- a number of four digits at the front, and what follows it
 unfoldable pub four_digits : List ℕ → Option (ℕ × List ℕ)
 four_digits text = do
   high ← two_digits text
@@ -46,12 +47,14 @@ abbrev pub whole : Zone → List ℕ → Option Zone
 whole found [] = Some found
 whole found (b ∷ rest) = None
 
+-- a distance of hours and minutes, with nothing behind it
 unfoldable pub offset : Bool → List ℕ → Option Zone
 offset is_behind text = do
   hours ← field 58 text
   minutes ← two_digits hours.1
   whole (record { is_behind = is_behind; hours = hours.0; minutes = minutes.0 }) minutes.1
 
+-- the zone that a whole text spells: nothing, `Z`, or a sign and a distance
 unfoldable pub zone : List ℕ → Option Zone
 zone [] = Some (record { is_behind = false; hours = 0; minutes = 0 })
 zone (b ∷ rest) =
@@ -59,6 +62,7 @@ zone (b ∷ rest) =
     else (if b == 45 then offset true rest
     else (if b == 90 then whole (record { is_behind = false; hours = 0; minutes = 0 }) rest else None))
 
+-- the numbers of a text that has the form of a moment
 unfoldable pub parts : List ℕ → Option Parts
 parts text = do
   year ← four_digits text

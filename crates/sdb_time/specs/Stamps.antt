@@ -3,9 +3,11 @@ use Rattle.sdb_time.specs.Parts as words
 use Rattle.sdb_time.specs.declared.zone.Zone.{Zone}
 use Rattle.sdb_time.specs.declared.stamp.Stamp.{Stamp}
 
+-- the zone that a value of the program stands for
 abbrev pub zone_of : Zone → words.Zone
 zone_of z = record { is_behind = z.is_behind; hours = z.hours; minutes = z.minutes }
 
+-- the numbers that a value of the program stands for
 abbrev pub parts_of : Stamp → words.Parts
 parts_of s = record {
   year = s.year;

@@ -1,3 +1,5 @@
+//! Numbers of a fixed count of digits at the front of a text.
+
 ghost use Rattle.std.specs.Prelude.{◌≡◌, ◌≤◌, IfSome};
 ghost use Rattle.std.specs.Option.{option_map};
 ghost use Rattle.sdb_time.specs.Reading as reading;

@@ -1,3 +1,5 @@
+//! Why texts are no moments.
+
 use thiserror::Error;
 
 /// Why a text is no moment.

@@ -1,3 +1,5 @@
+//! Reading a moment: its form, and then its Unix seconds.
+
 ghost use Rattle.std.specs.Prelude.{◌≡◌, ◌↔◌, ℕ, pos, ◌+ℤ◌, ◌-ℤ◌, ◌*ℤ◌, ◌<ℤ◌, Ok, Err, IfSome, IfNone};
 ghost use Rattle.jiff_core.specs.Calendar.{IsEpochDay, IsWithin};
 ghost use Rattle.sdb_time.specs.Parts.{Parts};
@@ -10,7 +12,7 @@ use sdb_base::Text;
 impl Stamp {
     ghost use Rattle.sdb_time.specs.Stamps.{parts_of};
 
-    /// The moment's Unix seconds, or `None` where there is no such moment since 1970.
+    // The moment's Unix seconds, or `None` where there is no such moment since 1970.
     fn seconds(&self) -> Option<u64>
         ensures some { IfSome result (IsMoment (parts_of self.now)) }
         ensures none { IfNone result ((seconds : ℕ) → ¬ (IsMoment (parts_of self.now) seconds)) }

@@ -1,3 +1,5 @@
+//! The numbers of a moment's text, and the day and the seconds that they make.
+
 ghost use Rattle.std.specs.Prelude.{◌≡◌, ◌≤◌, ◌↔◌, pos, length, IsTrue, IfSome, IfNone};
 ghost use Rattle.std.specs.Option.{option_map};
 ghost use Rattle.jiff_core.specs.Calendar.{IsCivilDate, IsEpochDay, IsWithin, days_from_civil};
@@ -30,7 +32,7 @@ fn digits_len(text: &[u8]) -> usize
     text.iter().take_while(|b| b.is_ascii_digit()).count()
 }
 
-/// What follows a fraction of a second, or the text where none stands at its front.
+// What follows a fraction of a second, or the text where none stands at its front.
 #[tactic(auto, unfolding(crate::specs::Reading::after_fraction))]
 fn after_fraction(text: &[u8]) -> Option<&[u8]>
     ensures { option_map (λ rest. rest.now) result ≡ reading.after_fraction text.now }

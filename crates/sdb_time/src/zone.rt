@@ -1,3 +1,5 @@
+//! Zones, and how far they are from UTC.
+
 ghost use Rattle.std.specs.Prelude.{◌≡◌};
 ghost use Rattle.std.specs.Option.{option_map};
 ghost use Rattle.jiff_core.specs.Calendar.{IsWithin};
