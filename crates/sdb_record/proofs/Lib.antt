@@ -1,0 +1,3 @@
+mod ReadLemmas
+pub mod RecordLaws
+mod WriteLemmas
