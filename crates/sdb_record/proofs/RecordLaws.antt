@@ -1,5 +1,5 @@
 -- The bytes of changes are formats.
-use Rattle.std.proofs.Common.{◌≡◌, ◌≢◌, ℕ, zero, suc, ◌+◌, ◌-◌, ◌≤◌, ◌<◌, ◌^◌, true, List, [], ◌∷◌, ◌++◌, length, drop, All, Ok, Err, refl, sym, ◌∙◌, ap, subst, append-nil, arith}
+use Rattle.std.proofs.Common.{◌≡◌, ℕ, zero, suc, ◌+◌, ◌-◌, ◌≤◌, ◌<◌, ◌^◌, List, [], ◌∷◌, ◌++◌, length, drop, Ok, Err, refl, sym, ◌∙◌, ap, subst, append-nil, arith}
 use Rattle.std.proofs.Math.Seq.{drop-append_seam}
 use Rattle.std.proofs.lemmas.List.{length-append}
 use Rattle.std.proofs.lemmas.Bool.{and_parts, and_from, le-leb, leb-true}
@@ -7,7 +7,7 @@ use Rattle.std.specs.List.{flat_map}
 use Rattle.sdb_base.specs.Names.{is_domain_char, IsDomainName, IsName, IsValue}
 use Rattle.sdb_base.proofs.NameLemmas.{IsName-utf8, IsValue-utf8, IsName-text, IsValue-text}
 use Rattle.sdb_format.specs.declared.fault.FormatFault.TheVariants.{Short, Bad}
-use Rattle.sdb_format.specs.Readers.{Reading, then_at, seen_at, times_at, second, AreTimes}
+use Rattle.sdb_format.specs.Readers.{Reading, then_at, times_at, second, AreTimes}
 use Rattle.sdb_format.specs.Format.{Takes, Begins, Judged, Format}
 use Rattle.sdb_format.specs.Numbers.{IsWithin, byte_in, u16_in, u32_at, be16, be32}
 use Rattle.sdb_format.specs.Letters.{text_bytes, passing_at, IsTextWithin, ArePassing}
@@ -20,7 +20,7 @@ use Rattle.sdb_pairs.specs.declared.op.Op.{Op}
 use Rattle.sdb_pairs.specs.declared.op.Op.TheVariants.{AddPair, DropPair, DropName, DropAll}
 use Rattle.sdb_pairs.specs.declared.change.Change.{Change}
 use Rattle.sdb_pairs.specs.declared.change.Change.TheVariants.{MakeDomain, DropDomain, Edit}
-use Rattle.sdb_pairs.specs.Lawful.{IsAccount, IsDomainKey, IsLawfulPair, IsLawfulOp, IsLawfulEdit, IsLawfulChange, AreLawfulChanges}
+use Rattle.sdb_pairs.specs.Lawful.{IsDomainKey, IsLawfulPair, IsLawfulOp, IsLawfulChange, AreLawfulChanges}
 use Rattle.sdb_record.specs.declared.fault.RecordFault.{RecordFault}
 use Rattle.sdb_record.specs.declared.fault.RecordFault.TheVariants.{Short as TooShort, Bad as NoChanges, OutOfMemory}
 use Rattle.sdb_record.specs.Spelling.{domain_bytes, place_bytes, pair_bytes, op_tag, op_rest, op_bytes, ops_bytes, change_tag, change_rest, change_bytes, spelling}

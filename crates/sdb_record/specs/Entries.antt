@@ -1,5 +1,5 @@
 -- How the bytes of changes are read.
-use Rattle.std.specs.Prelude.{◌≡◌, ℕ, zero, suc, ◌<◌, ◌≤◌, ◌^◌, List, [], ◌∷◌, ◌++◌, length, All, Result, Ok, Err, IfErr}
+use Rattle.std.specs.Prelude.{◌≡◌, ℕ, zero, suc, ◌<◌, ◌≤◌, ◌^◌, List, length, All, Result, Ok, Err, IfErr}
 use Rattle.sdb_base.specs.Names.{is_domain_char}
 use Rattle.sdb_format.specs.declared.fault.FormatFault.TheVariants.{Short as ends_early, Bad as is_wrong}
 use Rattle.sdb_format.specs.Readers.{Reading, Reader, then_at, seen_at, times_at, second}

@@ -1,5 +1,5 @@
 -- What reading the bytes of changes gives, and when it is refused.
-use Rattle.std.specs.Prelude.{◌≡◌, ◌≢◌, ℕ, ◌≤◌, List, [], ◌++◌, length, drop}
+use Rattle.std.specs.Prelude.{◌≡◌, ◌≢◌, ℕ, List, [], ◌++◌, length, drop}
 use Rattle.sdb_pairs.specs.declared.change.Change.{Change}
 use Rattle.sdb_pairs.specs.Lawful.{AreLawfulChanges}
 use Rattle.sdb_record.specs.Spelling.{spelling}

@@ -1,5 +1,5 @@
 -- The bytes of changes. Numbers stand with their highest byte first.
-use Rattle.std.specs.Prelude.{ℕ, ◌^◌, ◌<◌, ◌≤◌, List, [], ◌∷◌, ◌++◌, length, All}
+use Rattle.std.specs.Prelude.{ℕ, List, [], ◌∷◌, ◌++◌, length}
 use Rattle.std.specs.List.{flat_map}
 use Rattle.sdb_format.specs.Numbers.{be16, be32}
 use Rattle.sdb_format.specs.Letters.{text_bytes}

@@ -1,4 +1,4 @@
-use Rattle.std.proofs.Common.{◌≡◌, ◌+◌, ◌-◌, ◌++◌, sym, ◌∙◌, ap, arith}
+use Rattle.std.proofs.Common.{◌+◌, ◌-◌, ◌++◌, sym, ◌∙◌, ap, arith}
 use Rattle.sdb_format.specs.Readers.{mapped, times_at}
 use Rattle.sdb_format.proofs.FormatLaws.{times_step}
 use Rattle.sdb_record.specs.Entries.{op_at}

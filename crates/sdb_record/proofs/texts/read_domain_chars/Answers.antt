@@ -1,4 +1,4 @@
-use Rattle.std.proofs.Common.{◌≡◌, ℕ, List, ◌++◌, take, drop, length, Ok, Err, sym, ◌∙◌, ap, arith}
+use Rattle.std.proofs.Common.{Ok, sym, ◌∙◌, ap, arith}
 use Rattle.std.proofs.lemmas.List.{take_all}
 use Rattle.std.specs.List.{list_all}
 use Rattle.sdb_base.specs.Names.{is_domain_char}
