@@ -18,6 +18,7 @@ use Rattle.sdb_record.specs.declared.fault.RecordFault.TheVariants.{Short, Bad}
 abbrev pub OnFault : {A T : Type 0} → Result T RecordFault → Reading A → Type 0
 OnFault result reading = IfErr result (λ fault. (fault ≡ Short → reading ≡ Err ends_early) × (fault ≡ Bad → reading ≡ Err is_wrong))
 
+-- a domain's name behind its length
 abbrev pub domain_at : Reader (List ℕ)
 domain_at = seen_at second (then_at (byte_in 3 255) (passing_at is_domain_char))
 
@@ -25,15 +26,19 @@ domain_at = seen_at second (then_at (byte_in 3 255) (passing_at is_domain_char))
 abbrev pub place_at : Reader (ℕ × List ℕ)
 place_at = then_at (byte_in 1 16) (λ account. domain_at)
 
+-- a name behind its length
 abbrev pub name_at : Reader (List ℕ)
 name_at = text_in 1 1024
 
+-- a value behind its length
 abbrev pub value_at : Reader (List ℕ)
 value_at = text_in 0 1024
 
+-- the pair of a name and a value
 abbrev pub pair_of : List ℕ × List ℕ → Pair
 pair_of x = record { name = x.0; value = x.1 }
 
+-- a name and a value
 abbrev pub pair_at : Reader Pair
 pair_at = seen_at pair_of (then_at name_at (λ name. value_at))
 
@@ -48,9 +53,11 @@ op_after (suc zero) = seen_at DropPair pair_at
 op_after (suc (suc zero)) = seen_at DropName name_at
 op_after (suc (suc (suc n))) = done_at DropAll
 
+-- one operation
 abbrev pub op_at : Reader Op
 op_at = seen_at second (then_at (byte_in 0 3) op_after)
 
+-- operations behind their number
 abbrev pub ops_at : Reader (List Op)
 ops_at = seen_at second (then_at (u16_in 1 65535) (λ count. times_at count op_at))
 
@@ -60,12 +67,15 @@ pub record AreOps (ops : List Op) : Type 0 where
   pub few : length ops < 2 ^ 16
   pub each : All IsLawfulOp ops
 
+-- the change that makes a domain
 abbrev pub make_of : ℕ × List ℕ → Change
 make_of x = MakeDomain x.0 x.1
 
+-- the change that drops a domain
 abbrev pub drop_of : ℕ × List ℕ → Change
 drop_of x = DropDomain x.0 x.1
 
+-- the change that edits an item
 abbrev pub edit_of : (ℕ × List ℕ) × (List ℕ × List Op) → Change
 edit_of x = Edit x.0.0 x.0.1 x.1.0 x.1.1
 

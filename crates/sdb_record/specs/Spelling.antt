@@ -17,22 +17,25 @@ domain_bytes domain = length domain ∷ domain
 abbrev pub place_bytes : ℕ → List ℕ → List ℕ
 place_bytes account domain = account ∷ domain_bytes domain
 
+-- a name and a value
 abbrev pub pair_bytes : Pair → List ℕ
 pair_bytes pair = text_bytes pair.name ++ text_bytes pair.value
 
--- an operation's tag, and what follows it
+-- an operation's tag
 abbrev pub op_tag : Op → ℕ
 op_tag (AddPair pair) = 0
 op_tag (DropPair pair) = 1
 op_tag (DropName name) = 2
 op_tag DropAll = 3
 
+-- what follows an operation's tag
 abbrev pub op_rest : Op → List ℕ
 op_rest (AddPair pair) = pair_bytes pair
 op_rest (DropPair pair) = pair_bytes pair
 op_rest (DropName name) = text_bytes name
 op_rest DropAll = []
 
+-- one operation
 abbrev pub op_bytes : Op → List ℕ
 op_bytes op = op_tag op ∷ op_rest op
 
@@ -40,12 +43,13 @@ op_bytes op = op_tag op ∷ op_rest op
 abbrev pub ops_bytes : List Op → List ℕ
 ops_bytes ops = be16 (length ops) ++ flat_map op_bytes ops
 
--- a change's tag, and what follows it
+-- a change's tag
 abbrev pub change_tag : Change → ℕ
 change_tag (MakeDomain account domain) = 0
 change_tag (DropDomain account domain) = 1
 change_tag (Edit account domain item ops) = 2
 
+-- what follows a change's tag
 abbrev pub change_rest : Change → List ℕ
 change_rest (MakeDomain account domain) = place_bytes account domain
 change_rest (DropDomain account domain) = place_bytes account domain
