@@ -143,3 +143,16 @@ retold_format {A} Fits text other read same format = record {
     by_reading bytes (Ok x) taken = record { fits = taken.fits; bytes_are = taken.bytes_are ∙ ap (λ t. t ++ x.1) (sym (same x.0)) }
     by_reading bytes (Err Short) begins = record { value = begins.value; fits = begins.fits; more = begins.more; some = begins.some; text_is = same begins.value ∙ begins.text_is }
     by_reading bytes (Err Bad) bad = bad
+
+-- ---- loops that read so many values
+-- one value more is read
+pub times_step : {A : Type 0} (read : Reader A) (n m : ℕ) (xs : List A) (x : A) (bytes rest : List ℕ) → n ≡ suc m → read bytes ≡ Ok (x, rest)
+    → mapped (λ ys. xs ++ ys) (times_at n read bytes) ≡ mapped (λ ys. (xs ++ x ∷ []) ++ ys) (times_at m read rest)
+times_step {A} read n m xs x bytes rest count done =
+    ap (λ k. mapped (λ ys. xs ++ ys) (times_at k read bytes)) count
+    ∙ ap (λ r. mapped (λ ys. xs ++ ys) (mapped in_front (go_on (λ y. times_at m read) r))) done
+    ∙ moved (times_at m read rest)
+  where
+    moved : (r : Reading (List A)) → mapped (λ ys. xs ++ ys) (mapped in_front (mapped (λ ys. (x, ys)) r)) ≡ mapped (λ ys. (xs ++ x ∷ []) ++ ys) r
+    moved (Ok y) = ap (λ ys. Ok (ys, y.1)) (sym (append_assoc xs (x ∷ []) y.0))
+    moved (Err fault) = refl

@@ -1,0 +1,4 @@
+mod ReadLemmas
+pub mod RecordLaws
+pub mod StandsLemmas
+mod WriteLemmas
