@@ -1,6 +1,6 @@
 -- Raw texts that stand for themselves.
 use Rattle.std.specs.Prelude.{ℕ, Bool, not, ◌&&◌, ◌==◌}
-use Rattle.sdb_form.specs.Form.{percent, plus}
+use Rattle.sdb_base.specs.Ascii.{percent, plus}
 
 -- neither `+` nor `%`
 abbrev pub is_plain : ℕ → Bool
