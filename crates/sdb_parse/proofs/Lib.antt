@@ -1,0 +1,12 @@
+mod ConditionLemmas
+mod ConditionSound
+mod CursorLemmas
+mod JudgedLemmas
+mod LineSound
+mod ListedLemmas
+mod PieceLemmas
+mod PredicateSound
+mod ReadLemmas
+mod SignLemmas
+mod SoundLemmas
+mod TermLemmas
