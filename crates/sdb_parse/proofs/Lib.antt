@@ -1,10 +1,14 @@
+mod CompleteLemmas
+mod ConditionComplete
 mod ConditionLemmas
 mod ConditionSound
 mod CursorLemmas
 mod JudgedLemmas
+mod LineComplete
 mod LineSound
 mod ListedLemmas
 mod PieceLemmas
+mod PredicateComplete
 mod PredicateSound
 mod ReadLemmas
 mod SignLemmas

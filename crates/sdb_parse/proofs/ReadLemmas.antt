@@ -1,5 +1,5 @@
 -- A text is read in one way.
-use Rattle.std.proofs.Common.{◌≡◌, ◌≢◌, ℕ, ◌≤◌, List, length, Option, Some, None, Result, Ok, Err, refl, sym, ap, subst, ◌∙◌}
+use Rattle.std.proofs.Common.{◌≡◌, ◌≢◌, ℕ, ◌≤◌, List, [], length, Option, Some, None, Result, Ok, Err, refl, sym, ap, subst, ◌∙◌}
 use Rattle.sdb_lex.specs.declared.fault.LexFault.{LexFault}
 use Rattle.sdb_lex.specs.declared.fault.LexFault.TheVariants.{BadByte, Unclosed, OutOfMemory}
 use Rattle.sdb_lex.specs.declared.token.Token.{Token}
@@ -12,11 +12,12 @@ use Rattle.sdb_parse.specs.declared.select.Select.{Select}
 use Rattle.sdb_parse.specs.declared.term.Term.{Term}
 use Rattle.sdb_parse.specs.Judged.{judged}
 use Rattle.sdb_parse.specs.Lines.{select_at}
-use Rattle.sdb_parse.specs.Parsed.{IsRead, Parsed, accepted, refused, not_read, Spells}
+use Rattle.sdb_parse.specs.Parsed.{IsRead, Parsed, accepted, refused, not_spelled, Spells}
 use Rattle.sdb_parse.specs.Reading.{Reads}
 use Rattle.sdb_parse.specs.Terms.{terms_of}
+use Rattle.sdb_parse.proofs.LineComplete.{select_complete}
 use Rattle.sdb_parse.proofs.LineSound.{select_sound}
-use Rattle.sdb_parse.proofs.SoundLemmas.{same_read}
+use Rattle.sdb_parse.proofs.SoundLemmas.{not_none, on_some, same_read}
 
 ok_not_err : (ts : List Token) (e : LexFault) → (let one : Cut = Ok ts in let other : Cut = Err e in one ≡ other) → ⊥
 ok_not_err ts e h = cc
@@ -67,22 +68,20 @@ same_tree text a b r q = first a b r.rest q.rest (sym r.read ∙ (ap (λ ts. sel
     first : (x y : Select) (l m : List Term) → ◌≡◌ {A = Option (Select × List Term)} (Some (x, l)) (Some (y, m)) → x ≡ y
     first x y l m e = ap (λ (p : Select × List Term). p.0) (same_read x y l m e)
 
+-- a tree that the text spells is read
+pub spelled_is_read : (text : List ℕ) (s : Select) → Spells text s → IsRead text s
+spelled_is_read text s w = record { tokens = w.tokens; cut = w.cut; rest = []; read = select_complete (terms_of text w.tokens) s w.is }
+
+pub one_tree : (text : List ℕ) (one other : Select) → Spells text one → Spells text other → one ≡ other
+one_tree text one other a b = same_tree text one other (spelled_is_read text one a) (spelled_is_read text other b)
+
 pub one_answer : (text : List ℕ) (one other : Result Select Refusal) → Parsed text one → Parsed text other → one ≡ other
-one_answer _ _ _ (accepted text s short r fine) (accepted _ t _ q _) = ap Ok (same_tree text s t r q)
-one_answer _ _ _ (accepted text s short r fine) (refused _ t refusal _ q judged_so) = absurd (no (sym fine ∙ (ap judged (same_tree text s t r q) ∙ judged_so)))
-  where
-    no : {x : Refusal} → None ≡ Some x → ⊥
-    no e = cc
-one_answer _ _ _ (accepted text s short r fine) (not_read _ none) = absurd (none s short r)
-one_answer _ _ _ (refused text s refusal short r so) (accepted _ t _ q fine) = absurd (no (sym fine ∙ (ap judged (same_tree text t s q r) ∙ so)))
-  where
-    no : {x : Refusal} → None ≡ Some x → ⊥
-    no e = cc
-one_answer _ _ _ (refused text s one short r so) (refused _ t other _ q so') = ap Err (same (sym so ∙ (ap judged (same_tree text s t r q) ∙ so')))
-  where
-    same : {x y : Refusal} → Some x ≡ Some y → x ≡ y
-    same e = cc
-one_answer _ _ _ (refused text s one short r so) (not_read _ none) = absurd (none s short r)
-one_answer _ _ _ (not_read text none) (accepted _ t short q fine) = absurd (none t short q)
-one_answer _ _ _ (not_read text none) (refused _ t other short q so) = absurd (none t short q)
-one_answer _ _ _ (not_read text none) (not_read _ also) = refl
+one_answer _ _ _ (accepted text s w fine) (accepted _ t v _) = ap Ok (one_tree text s t w v)
+one_answer _ _ _ (accepted text s w fine) (refused _ t refusal v so) = absurd (not_none refusal (sym fine ∙ (ap judged (one_tree text s t w v) ∙ so)))
+one_answer _ _ _ (accepted text s w fine) (not_spelled _ none) = absurd (none s w)
+one_answer _ _ _ (refused text s refusal w so) (accepted _ t v fine) = absurd (not_none refusal (sym fine ∙ (ap judged (one_tree text t s v w) ∙ so)))
+one_answer _ _ _ (refused text s one w so) (refused _ t other v so') = ap Err (on_some one other (sym so ∙ (ap judged (one_tree text s t w v) ∙ so')))
+one_answer _ _ _ (refused text s one w so) (not_spelled _ none) = absurd (none s w)
+one_answer _ _ _ (not_spelled text none) (accepted _ t v fine) = absurd (none t v)
+one_answer _ _ _ (not_spelled text none) (refused _ t other v so) = absurd (none t v)
+one_answer _ _ _ (not_spelled text none) (not_spelled _ also) = refl

@@ -18,20 +18,24 @@ pub record Spells (text : List ℕ) (s : Select) : Type 0 where
   pub cut : Cuts 0 text (Ok tokens)
   pub is : IsSelect (terms_of text tokens) s
 
--- the reading of a text: its tokens are terms from which the readers give that tree, to the end
+-- the answer to a text: the tree that it spells where that is judged fine, the first refusal of that tree, or
+-- InvalidQueryExpression where it spells none
+pub data Parsed : List ℕ → Result Select Refusal → Type 0 where
+  accepted : (text : List ℕ) (s : Select) → Spells text s → judged s ≡ None → Parsed text (Ok s)
+  refused : (text : List ℕ) (s : Select) (refusal : Refusal) → Spells text s → judged s ≡ Some refusal → Parsed text (Err refusal)
+  not_spelled : (text : List ℕ) → ((s : Select) → ¬ (Spells text s)) → Parsed text (Err InvalidQueryExpression)
+
+-- what the program reads, whatever the length of the text
 pub record IsRead (text : List ℕ) (s : Select) : Type 0 where
   pub tokens : List Token
   pub cut : Cuts 0 text (Ok tokens)
   pub rest : List Term
   pub read : select_at (terms_of text tokens) ≡ Some (s, rest)
 
--- the answer to a text: the tree that is read where it is judged fine, the first refusal of that tree, or
--- InvalidQueryExpression where the text has more than 65,536 bytes or no tree is read
-pub data Parsed : List ℕ → Result Select Refusal → Type 0 where
-  accepted : (text : List ℕ) (s : Select) → length text ≤ 65536 → IsRead text s → judged s ≡ None → Parsed text (Ok s)
-  refused : (text : List ℕ) (s : Select) (refusal : Refusal) → length text ≤ 65536 → IsRead text s → judged s ≡ Some refusal → Parsed text (Err refusal)
-  not_read : (text : List ℕ) → ((s : Select) → length text ≤ 65536 → ¬ (IsRead text s)) → Parsed text (Err InvalidQueryExpression)
-
 -- a text has one answer
 abbrev pub OneAnswer : Type 0
 OneAnswer = (text : List ℕ) (one other : Result Select Refusal) → Parsed text one → Parsed text other → one ≡ other
+
+-- a text spells at most one tree
+abbrev pub OneTree : Type 0
+OneTree = (text : List ℕ) (one other : Select) → Spells text one → Spells text other → one ≡ other

@@ -20,7 +20,7 @@ mod terms;
 mod test;
 
 pub use expr::{Expr, Exprs, Operand};
-pub use laws::one_answer;
+pub use laws::{one_answer, one_tree};
 pub use pattern::Pattern;
 pub use reading::parse;
 pub use select::{Output, Select, Sort, SortKey};
