@@ -25,3 +25,6 @@ pub use pattern::Pattern;
 pub use reading::parse;
 pub use select::{Output, Select, Sort, SortKey};
 pub use test::Test;
+
+#[cfg(test)]
+mod tests;
