@@ -4,6 +4,7 @@ mod ConditionLemmas
 mod ConditionSound
 mod CursorLemmas
 mod JudgedLemmas
+mod LawfulLemmas
 mod LineComplete
 mod LineSound
 mod ListedLemmas

@@ -1,6 +1,7 @@
 pub mod Conditions
 pub mod Grammar
 pub mod Judged
+pub mod Lawful
 pub mod Lines
 pub mod Parsed
 pub mod Reading

@@ -1,5 +1,6 @@
 ghost use Rattle.std.specs.Prelude.{◌≡◌, ◌≢◌, Err, IfOk};
 ghost use Rattle.sdb_parse.specs.declared.select.Select.{Select as tree};
+ghost use Rattle.sdb_parse.specs.Lawful.{IsLawful};
 ghost use Rattle.sdb_parse.specs.Parsed.{IsRead, Parsed};
 
 use crate::fault::Fault;
@@ -25,7 +26,8 @@ const MOST_BYTES: usize = 65_536;
 /// constants in one `in`, `InvalidSortExpression` for an order by an attribute that no predicate but
 /// `is null` names.
 pub fn parse(alloc: Global, text: &Text) -> Result<Select, Refusal>
-    ensures { result ≢ Err Refusal.OutOfMemory → Parsed text.now result }
+    ensures answer { result ≢ Err Refusal.OutOfMemory → Parsed text.now result }
+    ensures lawful { IfOk result IsLawful }
 {
     if text.as_str().len() > MOST_BYTES {
         return Err(Refusal::InvalidQueryExpression);
