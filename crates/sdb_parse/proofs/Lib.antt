@@ -1,0 +1,17 @@
+mod CompleteLemmas
+mod ConditionComplete
+mod ConditionLemmas
+mod ConditionSound
+mod CursorLemmas
+mod JudgedLemmas
+mod LawfulLemmas
+mod LineComplete
+mod LineSound
+mod ListedLemmas
+mod PieceLemmas
+mod PredicateComplete
+mod PredicateSound
+mod ReadLemmas
+mod SignLemmas
+mod SoundLemmas
+mod TermLemmas

@@ -1,0 +1,10 @@
+pub mod Conditions
+pub mod Grammar
+pub mod Judged
+pub mod Lawful
+pub mod Lines
+pub mod Parsed
+pub mod Reading
+pub mod Signs
+pub mod Tally
+pub mod Terms

@@ -1,0 +1,30 @@
+//! The Select language: its trees, and how a text is read as one.
+#![tactic(auto)]
+
+mod condition;
+mod cursor;
+mod expr;
+mod fault;
+mod joint;
+mod judging;
+mod laws;
+mod line;
+mod names;
+mod pattern;
+mod predicate;
+mod reading;
+mod select;
+mod sign;
+mod term;
+mod terms;
+mod test;
+
+pub use expr::{Expr, Exprs, Operand};
+pub use laws::{one_answer, one_tree};
+pub use pattern::Pattern;
+pub use reading::parse;
+pub use select::{Output, Select, Sort, SortKey};
+pub use test::Test;
+
+#[cfg(test)]
+mod tests;
