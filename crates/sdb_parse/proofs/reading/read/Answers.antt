@@ -16,11 +16,11 @@ returns-in-Err-Unclosed-clause-none c = λ _ s r.
 
 pub terms-requires : goal.terms-requires
 terms-requires c =
-    subst (λ (text : List ℕ). All (IsPiece text) c.in-Ok.tokens) (sym c.as_str.ensures)
-    (are_pieces c.args.text.now c.in-Ok.tokens (subst IsUtf8 c.as_str.ensures c.as_str.utf8) (c.in-Ok.ensures.cut (λ e. not_lacking c.in-Ok.tokens e)))
+    subst (λ (text : List ℕ). All (IsPiece text) c.in-Ok.tokens) (sym c.as_str.ensures.value)
+    (are_pieces c.args.text.now c.in-Ok.tokens (subst IsUtf8 c.as_str.ensures.value c.as_str.utf8) (c.in-Ok.ensures.cut (λ e. not_lacking c.in-Ok.tokens e)))
 
 pub returns-clause-none : goal.returns-clause-none
 returns-clause-none c =
     let start : c.in_ok-cursor.cursor ≡ terms_of c.args.text.now c.in-Ok.tokens =
-    subst (λ (text : List ℕ). c.in_ok-cursor.cursor ≡ terms_of text c.in-Ok.tokens) c.as_str.ensures c.in_ok-cursor.ensures in
+    subst (λ (text : List ℕ). c.in_ok-cursor.cursor ≡ terms_of text c.in-Ok.tokens) c.as_str.ensures.value c.in_ok-cursor.ensures in
     none_read c.args.text.now c.in-Ok.tokens c.in_ok-cursor.cursor c.read_select.new.cursor c.read_select.result (c.in-Ok.ensures.cut (λ e. not_lacking c.in-Ok.tokens e)) start c.read_select.ensures
