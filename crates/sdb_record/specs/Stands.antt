@@ -1,4 +1,4 @@
--- What the four files of a store stand for. The journal that is applied last stands on a ground: its generation, the
+-- What the four files of a store stand for. The journal that is applied last stands on a base: its generation, the
 -- number before its first record, and the changes before that record.
 use Rattle.std.specs.Prelude.{◌≡◌, ◌≢◌, ◌⊎◌, ℕ, zero, suc, ◌+◌, ◌%◌, ◌<◌, Bool, false, IsTrue, nat_le, List, [], ◌++◌, length}
 use Rattle.std.specs.List.{flat_map, list_all}
@@ -26,7 +26,7 @@ pub record Ground : Type 0 where
 abbrev pub no_ground : Ground
 no_ground = record { generation = 0; first = 0; changes = [] }
 
--- the files that aren't the journal's say that it stands on this ground
+-- the files that aren't the journal's say that it stands on this base
 pub record HasGround (g : Ground) (c : Files) : Type 0 where
   pub none : g ≡ no_ground
   pub first_checkpoint : IsClosed 33 (c 0)

@@ -1,0 +1,75 @@
+ghost use Rattle.std.specs.Prelude.{◌≡◌, ◌<◌, ◌≤◌, ◌+◌, ◌^◌, ℕ, List, [], ◌∷◌, ◌++◌, length, IsTrue, OnOk, OnErr};
+ghost use Rattle.sdb_base.specs.Causes.{HasCause};
+ghost use Rattle.sdb_disk.specs.Disk.{SettledFile, LeavesOnly, Elapses};
+ghost use Rattle.sdb_record.specs.Stands.{journal_of};
+ghost use Rattle.sdb_journal.specs.Places.{IsAt};
+ghost use Rattle.sdb_journal.specs.Appends.{body_of, BeforeOrAfter, Appended};
+
+use crate::append::append_at;
+use sdb_disk::{Disk, DiskFault};
+use std::marker::Model;
+
+/// A journal that records are appended to: its generation, the number before its first record, the place of its
+/// current gate in its file, and the number of its last record.
+#[derive(Debug, Drop)]
+pub struct Journal {
+    generation: u64,
+    first: u64,
+    gate: u64,
+    sequence: u64,
+}
+
+impl Model for Journal {
+    ghost use Rattle.std.specs.Prelude.{◌≤◌, ◌^◌};
+    ghost use Rattle.sdb_journal.specs.Places.{Place};
+
+    ghost Value = { Place };
+
+    ghost view = { λ it. record { generation = it.generation; first = it.first; gate = it.gate; sequence = it.sequence } };
+
+    ghost invariant = { λ it. it.gate ≤ 2 ^ 62 };
+}
+
+impl Journal {
+    /// The number of the last record.
+    pub fn sequence(&self) -> u64
+        ensures { result ≡ self.now.sequence }
+    {
+        self.sequence
+    }
+
+    /// The place of the current gate.
+    pub fn size(&self) -> u64
+        ensures { result ≡ self.now.gate }
+    {
+        self.gate
+    }
+
+    /// Appends a record. `frame` is 12 bytes, then the body, which is exactly one list of lawful changes, then one byte;
+    /// the call fills in the 12 bytes and the last. It takes no memory. After a fault the journal is as before, and
+    /// nothing but a new start may use the disk.
+    pub fn append<D: Disk>(&mut self, frame: &mut [u8], disk: &mut D) -> Result<(), DiskFault>
+        requires least { 13 ≤ length frame.old }
+        requires most { length frame.old < 2 ^ 32 }
+        requires within { IsTrue (D.state disk.old).told → self.old.gate < length ((D.state disk.old).seen (journal_of self.old.generation)) }
+        requires settled { SettledFile (D.state disk.old) (journal_of self.old.generation) }
+
+        ensures images { IsTrue (D.state disk.old).told → (bodies : List (List ℕ)) → IsAt self.old bodies ((D.state disk.old).seen (journal_of self.old.generation))
+            → LeavesOnly (D.state disk.old) (D.state disk.new)
+            (BeforeOrAfter (journal_of self.old.generation) self.old.generation self.old.first bodies (body_of frame.old) (D.state disk.old)) }
+        ensures done { OnOk result (IsTrue (D.state disk.old).told → (bodies : List (List ℕ)) → IsAt self.old bodies ((D.state disk.old).seen (journal_of self.old.generation))
+            → Appended (journal_of self.old.generation) self.new (bodies ++ body_of frame.old ∷ []) (D.state disk.old) (D.state disk.new)) }
+        ensures kept { OnErr result (self.new ≡ self.old) }
+        ensures time { Elapses (D.state disk.old) (D.state disk.new) }
+        ensures told { (D.state disk.new).told ≡ (D.state disk.old).told }
+        ensures cause { HasCause (D.state disk.old).faults (D.state disk.new).faults result }
+        ensures syncs { (D.state disk.new).syncs ≤ (D.state disk.old).syncs + 2 }
+    {
+        let file = 2 + (self.generation % 2) as u8;
+        let number = self.sequence.wrapping_add(1);
+        append_at(file, self.gate, number, frame, disk)?;
+        self.gate += frame.len() as u64;
+        self.sequence = number;
+        Ok(())
+    }
+}
