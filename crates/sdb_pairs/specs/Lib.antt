@@ -3,4 +3,5 @@ pub mod Changes
 pub mod Entries
 pub mod Laws
 pub mod Lawful
+pub mod Listing
 pub mod Pairs
