@@ -37,6 +37,19 @@ actions =
 unfoldable pub action_named : List ℕ → Option Action
 action_named name = lookup (bytes_eq name) actions
 
+-- the name of an action
+unfoldable pub action_text : Action → List ℕ
+action_text CreateDomain = codes "CreateDomain"
+action_text DeleteDomain = codes "DeleteDomain"
+action_text ListDomains = codes "ListDomains"
+action_text DomainMetadata = codes "DomainMetadata"
+action_text PutAttributes = codes "PutAttributes"
+action_text BatchPutAttributes = codes "BatchPutAttributes"
+action_text GetAttributes = codes "GetAttributes"
+action_text DeleteAttributes = codes "DeleteAttributes"
+action_text BatchDeleteAttributes = codes "BatchDeleteAttributes"
+action_text Select = codes "Select"
+
 abbrev pub one_of_ten : Option Action → Result Action Refusal
 one_of_ten None = Err InvalidAction
 one_of_ten (Some action) = Ok action

@@ -1,5 +1,5 @@
-ghost use Rattle.std.specs.Prelude.{◌≡◌};
-ghost use Rattle.sdb_action.specs.Actions.{action_named, action_of};
+ghost use Rattle.std.specs.Prelude.{◌≡◌, Some};
+ghost use Rattle.sdb_action.specs.Actions.{action_named, action_of, action_text};
 
 use crate::action::Action;
 use sdb_base::Params;
@@ -46,4 +46,26 @@ pub fn read_action(params: &Params) -> Result<Action, Refusal>
         return Err(Refusal::MissingParameter);
     };
     action_named(name.as_str()).ok_or(Refusal::InvalidAction)
+}
+
+impl Action {
+    /// The action's name, as the parameter `Action` has it and as the elements of its answer begin.
+    #[tactic(auto, unfolding(crate::specs::Actions::action_text, crate::specs::Actions::action_named))]
+    pub fn name(self) -> &'static str
+        ensures text { result.now ≡ action_text self }
+        ensures named { action_named result.now ≡ Some self }
+    {
+        match self {
+            Action::CreateDomain => "CreateDomain",
+            Action::DeleteDomain => "DeleteDomain",
+            Action::ListDomains => "ListDomains",
+            Action::DomainMetadata => "DomainMetadata",
+            Action::PutAttributes => "PutAttributes",
+            Action::BatchPutAttributes => "BatchPutAttributes",
+            Action::GetAttributes => "GetAttributes",
+            Action::DeleteAttributes => "DeleteAttributes",
+            Action::BatchDeleteAttributes => "BatchDeleteAttributes",
+            Action::Select => "Select",
+        }
+    }
 }

@@ -115,12 +115,15 @@ fn an_item_is_shown_with_its_name(rt: HostRuntime) -> Result<(), Fail> {
     let item = item_of(alloc, &[("k", "v")])?;
     let mut pairs = Pairs::new(alloc);
     for pair in item.pairs() {
-        pairs.push(pair.copy(alloc)?)?;
+        pairs.push(pair)?;
     }
-    let shown = ItemOut {
-        name: text(alloc, "i")?,
-        pairs,
-    };
-    assert!(rt; is_shown(shown.pairs.as_slice(), &[("k", "v")]));
+    let name = text(alloc, "i")?;
+    let shown = ItemOut::new(&name, pairs);
+    assert_eq!(rt; shown.name().as_str(), "i");
+    assert_eq!(rt; shown.pairs().len(), 1);
+    assert!(rt; !shown.pairs().is_empty());
+    let first = shown.pairs().as_slice()[0];
+    assert_eq!(rt; first.name.as_str(), "k");
+    assert_eq!(rt; first.value.as_str(), "v");
     Ok(())
 }
