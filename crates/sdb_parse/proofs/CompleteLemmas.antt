@@ -1,13 +1,12 @@
 -- What the grammar says of names and lists is what readers give.
-use Rattle.std.proofs.Common.{◌≡◌, ℕ, zero, suc, ◌+◌, ◌<◌, ◌≤◌, Bool, true, false, not, ◌&&◌, List, [], ◌∷◌, length, drop, Option, Some, None, if◌then◌else◌, refl, sym, ap, ap₂, ◌∙◌, arith}
+use Rattle.std.proofs.Common.{◌≡◌, ℕ, zero, suc, ◌<◌, ◌≤◌, Bool, true, false, not, ◌&&◌, List, [], ◌∷◌, length, drop, Option, Some, None, if◌then◌else◌, refl, sym, ap, ap₂, ◌∙◌, arith}
 use Rattle.std.proofs.lemmas.Bool.{false≢true}
-use Rattle.sdb_base.specs.Names.{is_name}
 use Rattle.sdb_parse.specs.declared.sign.Sign.{Sign}
 use Rattle.sdb_parse.specs.declared.sign.Sign.TheVariants as sign
 use Rattle.sdb_parse.specs.declared.term.Term.{Term}
 use Rattle.sdb_parse.specs.Signs.{may_name, same}
 use Rattle.sdb_parse.specs.Reading.{Reader, attr_at, chain, expect, item_name_at, listed, more, name_at, sees, sees_call, text_at}
-use Rattle.sdb_parse.specs.Grammar.{is_call, IsName, named, IsAttr, attr, IsQuoted, quoted, IsItemName, item_name, Further, no_further, one_further, Listing, listing}
+use Rattle.sdb_parse.specs.Grammar.{IsName, named, IsAttr, attr, IsQuoted, quoted, IsItemName, item_name, Further, no_further, one_further, Listing, listing}
 use Rattle.sdb_parse.proofs.SignLemmas.{same_is, is_same}
 use Rattle.sdb_parse.proofs.ConditionLemmas.{chain_some}
 

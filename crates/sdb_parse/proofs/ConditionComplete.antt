@@ -1,13 +1,13 @@
 -- Conditions that the grammar has are what readers give.
-use Rattle.std.proofs.Common.{◌≡◌, ℕ, zero, suc, ◌<◌, ◌≤◌, Bool, true, false, List, [], ◌∷◌, length, Option, Some, None, refl, sym, ap, ◌∙◌, arith}
+use Rattle.std.proofs.Common.{◌≡◌, ℕ, zero, suc, ◌<◌, ◌≤◌, false, List, ◌∷◌, length, Some, refl, sym, ◌∙◌, arith}
 use Rattle.sdb_parse.specs.declared.expr.Expr.{Expr}
 use Rattle.sdb_parse.specs.declared.expr.Expr.TheVariants as tree
 use Rattle.sdb_parse.specs.declared.joint.Joint.{Joint}
 use Rattle.sdb_parse.specs.declared.joint.Joint.TheVariants as joint
 use Rattle.sdb_parse.specs.declared.sign.Sign.TheVariants as sign
 use Rattle.sdb_parse.specs.declared.term.Term.{Term}
-use Rattle.sdb_parse.specs.Reading.{Reader, chain, expect, listed, more, sees}
-use Rattle.sdb_parse.specs.Conditions.{grouped_by, join, join_of, joined_at, joined_with, member_at, negated_by, predicate_at, separator, unary_at, whole}
+use Rattle.sdb_parse.specs.Reading.{Reader, expect, listed, more, sees}
+use Rattle.sdb_parse.specs.Conditions.{grouped_by, join, join_of, joined_at, joined_with, member_at, negated_by, separator, unary_at, whole}
 use Rattle.sdb_parse.specs.Grammar.{Rule, Unary, Joined, member, Spells, predicate, negated, grouped, joined, More, no_more, one_more}
 use Rattle.sdb_parse.proofs.ConditionLemmas.{chain_some, joined_is, unary_plain}
 use Rattle.sdb_parse.proofs.CompleteLemmas.{if_yes, if_no, expect_yes, sees_yes, sees_no, turn, last_turn, whole_list}

@@ -1,5 +1,5 @@
 -- Conditions by what may still stand round a predicate, and by their members.
-use Rattle.std.proofs.Common.{◌≡◌, ℕ, zero, suc, ◌+◌, ◌<◌, ◌≤◌, Bool, true, false, List, [], ◌∷◌, length, Option, Some, None, if◌then◌else◌, refl, ap, sym, subst, ◌∙◌, arith}
+use Rattle.std.proofs.Common.{◌≡◌, ℕ, zero, suc, ◌<◌, ◌≤◌, Bool, true, false, List, [], ◌∷◌, length, Option, Some, None, if◌then◌else◌, refl, ap, ◌∙◌, arith}
 use Rattle.sdb_parse.specs.declared.expr.Expr.{Expr}
 use Rattle.sdb_parse.specs.declared.expr.Expr.TheVariants as tree
 use Rattle.sdb_parse.specs.declared.joint.Joint.{Joint}
@@ -7,8 +7,8 @@ use Rattle.sdb_parse.specs.declared.joint.Joint.TheVariants as joint
 use Rattle.sdb_parse.specs.declared.sign.Sign.TheVariants as sign
 use Rattle.sdb_parse.specs.declared.term.Term.{Term}
 use Rattle.sdb_parse.specs.Reading.{Reader, chain, expect, listed, sees}
-use Rattle.sdb_parse.specs.Conditions.{grouped_at, grouped_by, join_of, joined_at, joined_by, joined_with, member_at, negated_at, negated_by, predicate_at, separator, unary_at, whole}
-use Rattle.sdb_parse.proofs.ListedLemmas.{Going, began, began_badly, went_badly, ended}
+use Rattle.sdb_parse.specs.Conditions.{grouped_at, grouped_by, join_of, joined_at, joined_by, member_at, negated_at, negated_by, predicate_at, separator, unary_at, whole}
+use Rattle.sdb_parse.proofs.ListedLemmas.{Going, began, ended}
 
 pub chain_none : {A B : Type 0} (next : A → Reader B) (got : Option (A × List Term)) → got ≡ None → chain got next ≡ None
 chain_none next got e = ap (λ g. chain g next) e

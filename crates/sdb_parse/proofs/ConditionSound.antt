@@ -1,14 +1,14 @@
 -- Conditions that readers give are those of the grammar.
-use Rattle.std.proofs.Common.{◌≡◌, ℕ, zero, suc, Bool, List, [], ◌∷◌, Option, Some, None, refl}
+use Rattle.std.proofs.Common.{◌≡◌, ℕ, zero, suc, List, ◌∷◌, Some}
 use Rattle.sdb_parse.specs.declared.expr.Expr.{Expr}
 use Rattle.sdb_parse.specs.declared.expr.Expr.TheVariants as tree
 use Rattle.sdb_parse.specs.declared.joint.Joint.{Joint}
 use Rattle.sdb_parse.specs.declared.joint.Joint.TheVariants as joint
 use Rattle.sdb_parse.specs.declared.sign.Sign.TheVariants as sign
 use Rattle.sdb_parse.specs.declared.term.Term.{Term}
-use Rattle.sdb_parse.specs.Reading.{Reader, chain, expect, listed, sees}
-use Rattle.sdb_parse.specs.Conditions.{grouped_by, join, join_of, joined_at, joined_with, negated_by, predicate_at, separator, unary_at, whole}
-use Rattle.sdb_parse.specs.Grammar.{Further, no_further, one_further, Listing, listing, Rule, Unary, Joined, member, Spells, negated, grouped, joined, More, no_more, one_more}
+use Rattle.sdb_parse.specs.Reading.{Reader, expect, listed, sees}
+use Rattle.sdb_parse.specs.Conditions.{grouped_by, join, join_of, joined_at, joined_with, negated_by, separator, unary_at, whole}
+use Rattle.sdb_parse.specs.Grammar.{Further, no_further, one_further, Listing, listing, Unary, Joined, member, Spells, negated, grouped, joined, More, no_more, one_more}
 use Rattle.sdb_parse.proofs.SoundLemmas.{Got, not_none, done, on_chain, on_if, on_expect, listing_sound}
 use Rattle.sdb_parse.proofs.PredicateSound.{predicate_sound}
 

@@ -1,5 +1,5 @@
 -- The first terms of a cursor.
-use Rattle.std.proofs.Common.{◌≡◌, ℕ, suc, ◌+◌, ◌<◌, ◌≤◌, Bool, true, false, ◌&&◌, List, [], ◌∷◌, length, Option, Some, None, is_none, IsTrue, refl, ap, ap₂, arith, Bor}
+use Rattle.std.proofs.Common.{◌≡◌, suc, ◌<◌, ◌≤◌, false, ◌&&◌, List, [], ◌∷◌, length, Option, Some, None, is_none, IsTrue, refl, ap, ap₂, arith, Bor}
 use Rattle.std.specs.Option.{option_copied}
 use Rattle.std.specs.Slice.{IsItemAt}
 use Rattle.std.proofs.lemmas.Bool.{false≢true}

@@ -1,10 +1,10 @@
 -- The predicates of a tree, and what is seen of them in one pass.
-use Rattle.std.proofs.Common.{◌≡◌, ℕ, suc, zero-add, ◌+◌, ◌<◌, ◌≤◌, Bool, true, false, not, ◌&&◌, ◌||◌, List, [], ◌∷◌, ◌++◌, length, drop, drop_of_length-le, get_or, map, fold, Option, Some, None, nat_lt, nat_le, if◌then◌else◌, refl, sym, ap, ◌∙◌, arith}
+use Rattle.std.proofs.Common.{◌≡◌, ℕ, suc, zero-add, ◌+◌, ◌<◌, ◌≤◌, Bool, true, false, not, ◌||◌, List, [], ◌∷◌, ◌++◌, length, drop, drop_of_length-le, get_or, map, fold, Option, Some, None, nat_lt, refl, sym, ap, ◌∙◌, arith}
 use Rattle.std.specs.List.{flat_map, list_any}
 use Rattle.std.proofs.lemmas.List.{at_drop_more}
 use Rattle.std.proofs.lemmas.List.Sums.{fold-append}
 use Rattle.std.proofs.lemmas.Bool.Decides.{nat_tests}
-use Rattle.sdb_parse.specs.declared.expr.Expr.{Expr, Expr-F, fold-roll-Expr}
+use Rattle.sdb_parse.specs.declared.expr.Expr.{Expr, fold-roll-Expr}
 use Rattle.sdb_parse.specs.declared.expr.Expr.TheVariants.{Pred, Not, And, Or, Inter, rolls-Pred, rolls-Not, rolls-And, rolls-Or, rolls-Inter}
 use Rattle.sdb_parse.specs.declared.expr.Expr.TheOpen as level
 use Rattle.sdb_parse.specs.declared.expr.Operand.{Operand}

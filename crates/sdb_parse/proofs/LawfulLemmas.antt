@@ -1,11 +1,10 @@
 -- A tree that a text spells is lawful.
 use Rattle.std.proofs.Common.{◌≡◌, ℕ, suc, ◌≤◌, Bool, true, false, not, ◌&&◌, ◌==◌, List, [], ◌∷◌, length, map, Option, Some, None, nat_le, if◌then◌else◌, refl, sym, ap, ap₂, subst, ◌∙◌, arith}
 use Rattle.std.specs.List.{list_all}
-use Rattle.std.proofs.lemmas.Bool.{false≢true}
 use Rattle.std.proofs.lemmas.Bool.Decides.{nat_tests}
 use Rattle.sdb_base.specs.Decimal.{decimal_of, is_decimal, value_after}
 use Rattle.sdb_parse.specs.declared.expr.Expr.{Expr, fold-roll-Expr}
-use Rattle.sdb_parse.specs.declared.expr.Expr.TheVariants.{Pred, Not, And, Or, Inter, rolls-Pred, rolls-Not, rolls-And, rolls-Or, rolls-Inter}
+use Rattle.sdb_parse.specs.declared.expr.Expr.TheVariants.{Pred, Not, rolls-Pred, rolls-Not, rolls-And, rolls-Or, rolls-Inter}
 use Rattle.sdb_parse.specs.declared.expr.Expr.TheOpen as level
 use Rattle.sdb_parse.specs.declared.expr.Operand.{Operand}
 use Rattle.sdb_parse.specs.declared.joint.Joint.{Joint}

@@ -1,24 +1,22 @@
 -- A Select expression of the grammar is what the reader gives.
-use Rattle.std.proofs.Common.{◌≡◌, ℕ, Bool, true, false, List, [], ◌∷◌, Option, Some, None, refl, sym, ap, ◌∙◌}
+use Rattle.std.proofs.Common.{◌≡◌, ℕ, Bool, true, false, List, [], ◌∷◌, Option, Some, None, refl, ap, ◌∙◌}
 use Rattle.sdb_parse.specs.declared.expr.Expr.{Expr}
 use Rattle.sdb_parse.specs.declared.joint.Joint.TheVariants as joint
 use Rattle.sdb_parse.specs.declared.select.Output.{Output}
-use Rattle.sdb_parse.specs.declared.select.Output.TheVariants as output
 use Rattle.sdb_parse.specs.declared.select.Select.{Select}
 use Rattle.sdb_parse.specs.declared.select.Sort.{Sort}
 use Rattle.sdb_parse.specs.declared.select.SortKey.{SortKey}
-use Rattle.sdb_parse.specs.declared.select.SortKey.TheVariants as key
 use Rattle.sdb_parse.specs.declared.sign.Sign.{Sign}
 use Rattle.sdb_parse.specs.declared.sign.Sign.TheVariants as sign
 use Rattle.sdb_parse.specs.declared.term.Term.{Term}
 use Rattle.sdb_parse.specs.Signs.{same}
-use Rattle.sdb_parse.specs.Reading.{attr_at, chain, expect, item_name_at, listed, name_at, nothing_left, sees, sees_call, text_at}
+use Rattle.sdb_parse.specs.Reading.{attr_at, expect, item_name_at, listed, name_at, nothing_left, sees, sees_call, text_at}
 use Rattle.sdb_parse.specs.Conditions.{joined_at}
-use Rattle.sdb_parse.specs.Grammar.{IsAttr, IsName, most_depth, limit_of, IsLimit, no_limit, limited, IsKey, by_attr, by_item_name, IsDirected, unsaid, upwards, downwards, IsSorted, no_sort, sorted, IsFiltered, no_condition, filtered, IsOutput, all, names, count, attrs, Listing, listing, IsSelect, select, Joined}
+use Rattle.sdb_parse.specs.Grammar.{IsAttr, most_depth, IsLimit, no_limit, limited, IsKey, by_attr, by_item_name, IsDirected, unsaid, upwards, downwards, IsSorted, no_sort, sorted, IsFiltered, no_condition, filtered, IsOutput, all, names, count, attrs, Listing, listing, IsSelect, select, Joined}
 use Rattle.sdb_parse.specs.Lines.{condition_at, count_at, direction_at, key_at, limit_at, limited_to, output_at, select_at, sort_at}
 use Rattle.sdb_parse.proofs.ConditionLemmas.{chain_some}
 use Rattle.sdb_parse.proofs.CompleteLemmas.{if_yes, if_no, expect_yes, text_yes, sees_yes, sees_no, call_no, call_yes, name_complete, attr_complete, attr_shorter, attr_sees, attr_calls, item_name_complete, item_name_called, item_name_sees, listing_complete}
-use Rattle.sdb_parse.proofs.ConditionComplete.{Ends, spells_complete}
+use Rattle.sdb_parse.proofs.ConditionComplete.{spells_complete}
 
 none_seen : (s : Sign) → sees s [] ≡ false
 unfolding sees

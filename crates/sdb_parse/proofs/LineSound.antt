@@ -1,5 +1,5 @@
 -- A Select expression that the reader gives is one of the grammar.
-use Rattle.std.proofs.Common.{◌≡◌, ℕ, Bool, true, false, List, [], ◌∷◌, Option, Some, None, refl, sym, ap, subst, ◌∙◌}
+use Rattle.std.proofs.Common.{◌≡◌, ℕ, Bool, true, false, List, [], ◌∷◌, Option, Some, None, refl, ap, subst, ◌∙◌}
 use Rattle.std.proofs.lemmas.Bool.{false≢true}
 use Rattle.sdb_parse.specs.declared.expr.Expr.{Expr}
 use Rattle.sdb_parse.specs.declared.joint.Joint.TheVariants as joint
@@ -11,9 +11,9 @@ use Rattle.sdb_parse.specs.declared.select.SortKey.{SortKey}
 use Rattle.sdb_parse.specs.declared.select.SortKey.TheVariants as key
 use Rattle.sdb_parse.specs.declared.sign.Sign.TheVariants as sign
 use Rattle.sdb_parse.specs.declared.term.Term.{Term}
-use Rattle.sdb_parse.specs.Reading.{attr_at, chain, expect, item_name_at, listed, name_at, nothing_left, sees, sees_call, text_at}
+use Rattle.sdb_parse.specs.Reading.{attr_at, expect, item_name_at, listed, name_at, nothing_left, sees, sees_call, text_at}
 use Rattle.sdb_parse.specs.Conditions.{joined_at}
-use Rattle.sdb_parse.specs.Grammar.{IsAttr, IsItemName, IsName, most_depth, limit_of, IsLimit, no_limit, limited, IsKey, by_attr, by_item_name, IsDirected, unsaid, upwards, downwards, IsSorted, no_sort, sorted, IsFiltered, no_condition, filtered, IsOutput, all, names, count, attrs, IsSelect, select}
+use Rattle.sdb_parse.specs.Grammar.{IsAttr, most_depth, limit_of, IsLimit, no_limit, limited, IsKey, by_attr, by_item_name, IsDirected, unsaid, upwards, downwards, IsSorted, no_sort, sorted, IsFiltered, no_condition, filtered, IsOutput, all, names, count, attrs, IsSelect, select}
 use Rattle.sdb_parse.specs.Lines.{condition_at, count_at, direction_at, key_at, limit_at, limited_to, output_at, select_at, sort_at}
 use Rattle.sdb_parse.proofs.SoundLemmas.{Got, not_none, same_read, done, on_chain, on_if, on_expect, on_text, attr_sound, name_sound, item_name_sound, listing_sound}
 use Rattle.sdb_parse.proofs.ConditionSound.{joined_sound}

@@ -1,19 +1,18 @@
 -- Each token that a text is cut into is a text by itself.
-use Rattle.std.proofs.Common.{◌≡◌, ℕ, zero, suc, ◌+◌, ◌-◌, ◌<◌, ◌≤◌, Bool, true, false, ◌&&◌, ◌||◌, ◌==◌, List, [], ◌∷◌, ◌++◌, length, take, drop, get_or, All, IsUtf8, Ok, Err, IfOk, refl, sym, ap, subst, ◌∙◌, arith, append_assoc, length-append, length-take, take-append-drop}
+use Rattle.std.proofs.Common.{◌≡◌, ℕ, zero, suc, ◌+◌, ◌-◌, ◌<◌, ◌≤◌, Bool, true, false, ◌&&◌, List, [], ◌∷◌, ◌++◌, length, take, drop, get_or, All, IsUtf8, Ok, Err, IfOk, refl, sym, ap, subst, ◌∙◌, arith, append_assoc, length-append, length-take, take-append-drop}
 use Rattle.std.proofs.Math.Seq.{take-append_seam}
 use Rattle.std.specs.List.{list_all}
-use Rattle.std.specs.Char.{is_ascii_digit, is_ascii_alphanumeric}
+use Rattle.std.specs.Char.{is_ascii_digit}
 use Rattle.std.specs.Str.{IsAscii, IsCharBoundary}
-use Rattle.std.proofs.lemmas.Bool.{false≢true, eqb-true}
+use Rattle.std.proofs.lemmas.Bool.{false≢true}
 use Rattle.std.proofs.lemmas.Bool.Decides.{nat_tests}
 use Rattle.std.proofs.lemmas.Str.{IsUtf8-append, IsUtf8-between, IsUtf8-from_ascii, IsCharBoundary-before_ascii, IsCharBoundary-after_ascii}
 use Rattle.sdb_lex.specs.Bytes.{word, quote, plain, order, comparing}
 use Rattle.sdb_lex.specs.declared.front.Front.TheVariants as front
 use Rattle.sdb_lex.specs.declared.token.Kind.{Kind}
-use Rattle.sdb_lex.specs.declared.token.Kind.TheVariants as kind
 use Rattle.sdb_lex.specs.declared.token.Token.{Token}
 use Rattle.sdb_lex.specs.Tokens.{doubled, separated, IsToken, a_word, digits, quoted, ticked, one_sign, ordering, with_equals, Begins, token, Cut, with_first, Cuts, at_end, past_blank, past_token, bad_byte, left_open}
-use Rattle.sdb_parse.specs.Terms.{IsEnclosed, IsPiece, MayEnclose, piece_of}
+use Rattle.sdb_parse.specs.Terms.{IsPiece, MayEnclose}
 
 -- ---- bytes of tokens
 

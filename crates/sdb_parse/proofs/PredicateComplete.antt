@@ -1,6 +1,5 @@
 -- Predicates that the grammar has are what readers give.
-use Rattle.std.proofs.Common.{◌≡◌, ℕ, ◌<◌, Bool, true, false, ◌&&◌, List, [], ◌∷◌, length, Option, Some, None, if◌then◌else◌, refl, sym, ap, ◌∙◌, arith}
-use Rattle.sdb_parse.specs.declared.expr.Expr.{Expr}
+use Rattle.std.proofs.Common.{◌≡◌, ℕ, ◌<◌, true, false, ◌&&◌, List, ◌∷◌, length, Some, None, refl, ap, ◌∙◌, arith}
 use Rattle.sdb_parse.specs.declared.expr.Expr.TheVariants as tree
 use Rattle.sdb_parse.specs.declared.expr.Operand.{Operand}
 use Rattle.sdb_parse.specs.declared.expr.Operand.TheVariants as operand
@@ -12,10 +11,10 @@ use Rattle.sdb_parse.specs.declared.test.Test.TheVariants as test
 use Rattle.sdb_parse.specs.Signs.{may_name, same}
 use Rattle.sdb_parse.specs.Reading.{attr_at, chain, expect, item_name_at, listed, sees, sees_call, text_at}
 use Rattle.sdb_parse.specs.Conditions.{between_at, compared, compared_with, comparison_at, every_at, is_every, is_null_test, like_at, null_test_at, one_of_at, operand_at, predicate_at, test_at}
-use Rattle.sdb_parse.specs.Grammar.{IsAttr, IsQuoted, Listing, IsTest, compares, likes, not_likes, within, one_of, null, not_null, IsOperand, some_value, every_value, its_name}
+use Rattle.sdb_parse.specs.Grammar.{IsQuoted, IsTest, compares, likes, not_likes, within, one_of, null, not_null, IsOperand, some_value, every_value, its_name}
 use Rattle.sdb_parse.proofs.SoundLemmas.{not_none}
 use Rattle.sdb_parse.proofs.ConditionLemmas.{chain_some}
-use Rattle.sdb_parse.proofs.CompleteLemmas.{passed, if_yes, if_no, expect_yes, text_yes, sees_yes, sees_no, attr_complete, attr_shorter, attr_sees, attr_calls, quoted_complete, quoted_shorter, item_name_complete, item_name_called, item_name_sees, item_name_shorter, call_no, listing_complete, listing_shorter}
+use Rattle.sdb_parse.proofs.CompleteLemmas.{if_yes, if_no, expect_yes, text_yes, sees_yes, sees_no, attr_complete, attr_shorter, attr_sees, attr_calls, quoted_complete, quoted_shorter, item_name_complete, item_name_called, item_name_sees, item_name_shorter, call_no, listing_complete, listing_shorter}
 
 -- a sign that compares is none of those of other tests
 others : (s : Sign) (v : List ℕ) (asked : Test) → compared s v ≡ Some asked →

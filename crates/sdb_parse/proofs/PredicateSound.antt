@@ -1,17 +1,16 @@
 -- Predicates that readers give are those of the grammar.
-use Rattle.std.proofs.Common.{◌≡◌, ℕ, Bool, true, false, ◌&&◌, List, [], ◌∷◌, drop, Option, Some, None, if◌then◌else◌, refl, sym, ap, subst}
+use Rattle.std.proofs.Common.{◌≡◌, ℕ, ◌&&◌, List, [], ◌∷◌, Option, Some, None, ap, subst}
 use Rattle.sdb_parse.specs.declared.expr.Expr.{Expr}
 use Rattle.sdb_parse.specs.declared.expr.Expr.TheVariants as tree
 use Rattle.sdb_parse.specs.declared.expr.Operand.{Operand}
 use Rattle.sdb_parse.specs.declared.expr.Operand.TheVariants as operand
-use Rattle.sdb_parse.specs.declared.sign.Sign.{Sign}
 use Rattle.sdb_parse.specs.declared.sign.Sign.TheVariants as sign
 use Rattle.sdb_parse.specs.declared.term.Term.{Term}
 use Rattle.sdb_parse.specs.declared.test.Test.{Test}
 use Rattle.sdb_parse.specs.declared.test.Test.TheVariants as test
-use Rattle.sdb_parse.specs.Reading.{attr_at, chain, expect, item_name_at, listed, sees, sees_call, text_at}
+use Rattle.sdb_parse.specs.Reading.{attr_at, expect, item_name_at, listed, sees, sees_call, text_at}
 use Rattle.sdb_parse.specs.Conditions.{between_at, compared, compared_with, comparison_at, every_at, is_every, is_null_test, like_at, null_test_at, one_of_at, operand_at, predicate_at, test_at}
-use Rattle.sdb_parse.specs.Grammar.{IsAttr, IsItemName, IsQuoted, Listing, IsTest, compares, likes, not_likes, within, one_of, null, not_null, IsOperand, some_value, every_value, its_name, Spells, Unary, predicate}
+use Rattle.sdb_parse.specs.Grammar.{IsAttr, IsQuoted, Listing, IsTest, compares, likes, not_likes, within, one_of, null, not_null, IsOperand, some_value, every_value, its_name, Spells, Unary, predicate}
 use Rattle.sdb_parse.proofs.SoundLemmas.{Got, not_none, same_read, done, on_chain, on_if, on_expect, on_text, attr_sound, quoted_sound, item_name_sound, listing_sound}
 
 on_compared : {C : Type 0} (o : Option Test) (mid rest : List Term) (t : Test) → compared_with o mid ≡ Some (t, rest) → (o ≡ Some t → mid ≡ rest → C) → C

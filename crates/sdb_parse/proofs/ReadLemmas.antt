@@ -1,5 +1,5 @@
 -- A text is read in one way.
-use Rattle.std.proofs.Common.{◌≡◌, ◌≢◌, ℕ, ◌≤◌, List, [], length, Option, Some, None, Result, Ok, Err, refl, sym, ap, subst, ◌∙◌}
+use Rattle.std.proofs.Common.{◌≡◌, ℕ, ◌≤◌, List, [], length, Option, Some, None, Result, Ok, Err, refl, sym, ap, ◌∙◌}
 use Rattle.sdb_lex.specs.declared.fault.LexFault.{LexFault}
 use Rattle.sdb_lex.specs.declared.fault.LexFault.TheVariants.{BadByte, Unclosed, OutOfMemory}
 use Rattle.sdb_lex.specs.declared.token.Token.{Token}

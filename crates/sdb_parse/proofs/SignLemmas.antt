@@ -1,5 +1,5 @@
 -- Signs that test as the same are the same.
-use Rattle.std.proofs.Common.{◌≡◌, ℕ, Bool, true, false, List, [], ◌∷◌, get_or, refl, sym, ap, ◌∙◌}
+use Rattle.std.proofs.Common.{◌≡◌, ℕ, true, List, [], ◌∷◌, get_or, refl, sym, ap, ◌∙◌}
 use Rattle.std.proofs.lemmas.Bool.{eqb-true, eq-eqb}
 use Rattle.sdb_parse.specs.declared.sign.Sign.{Sign}
 use Rattle.sdb_parse.specs.declared.sign.Sign.TheVariants as sign

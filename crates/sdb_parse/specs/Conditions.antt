@@ -8,7 +8,6 @@ use Rattle.sdb_parse.specs.declared.joint.Joint.{Joint}
 use Rattle.sdb_parse.specs.declared.joint.Joint.TheVariants as joint
 use Rattle.sdb_parse.specs.declared.sign.Sign.{Sign}
 use Rattle.sdb_parse.specs.declared.sign.Sign.TheVariants as sign
-use Rattle.sdb_parse.specs.declared.term.Term.{Term}
 use Rattle.sdb_parse.specs.declared.test.Test.{Test}
 use Rattle.sdb_parse.specs.declared.test.Test.TheVariants as test
 use Rattle.sdb_parse.specs.Signs.{same}

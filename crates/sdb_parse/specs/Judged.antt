@@ -16,7 +16,6 @@ use Rattle.sdb_parse.specs.declared.select.SortKey.{SortKey}
 use Rattle.sdb_parse.specs.declared.select.SortKey.TheVariants as key
 use Rattle.sdb_parse.specs.declared.test.Test.{Test}
 use Rattle.sdb_parse.specs.declared.test.Test.TheVariants as test
-use Rattle.sdb_parse.specs.Conditions.{is_null_test}
 
 abbrev pub Predicate : Type 0
 Predicate = Operand × Test

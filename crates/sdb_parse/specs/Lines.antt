@@ -1,5 +1,5 @@
 -- How a whole Select expression is read.
-use Rattle.std.specs.Prelude.{◌≡◌, ℕ, Bool, true, false, List, [], ◌∷◌, Option, Some, None, if◌then◌else◌}
+use Rattle.std.specs.Prelude.{ℕ, Bool, true, false, Option, Some, None, if◌then◌else◌}
 use Rattle.sdb_parse.specs.declared.expr.Expr.{Expr}
 use Rattle.sdb_parse.specs.declared.joint.Joint.TheVariants as joint
 use Rattle.sdb_parse.specs.declared.select.Output.{Output}
@@ -9,7 +9,6 @@ use Rattle.sdb_parse.specs.declared.select.Sort.{Sort}
 use Rattle.sdb_parse.specs.declared.select.SortKey.{SortKey}
 use Rattle.sdb_parse.specs.declared.select.SortKey.TheVariants as key
 use Rattle.sdb_parse.specs.declared.sign.Sign.TheVariants as sign
-use Rattle.sdb_parse.specs.declared.term.Term.{Term}
 use Rattle.sdb_parse.specs.Reading.{Reader, attr_at, chain, expect, item_name_at, listed, name_at, nothing_left, sees, sees_call, text_at}
 use Rattle.sdb_parse.specs.Conditions.{joined_at}
 use Rattle.sdb_parse.specs.Grammar.{limit_of, most_depth}

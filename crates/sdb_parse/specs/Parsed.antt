@@ -1,5 +1,5 @@
 -- What a text spells, and what it is answered.
-use Rattle.std.specs.Prelude.{◌≡◌, ℕ, ◌≤◌, List, length, Option, Some, None, Result, Ok, Err}
+use Rattle.std.specs.Prelude.{◌≡◌, ℕ, ◌≤◌, List, length, Some, None, Result, Ok, Err}
 use Rattle.sdb_lex.specs.declared.token.Token.{Token}
 use Rattle.sdb_lex.specs.Tokens.{Cuts}
 use Rattle.sdb_tables.specs.declared.refusal.Refusal.{Refusal}

@@ -1,13 +1,10 @@
-use Rattle.std.proofs.Common.{◌≡◌, ◌∙◌, suc, ◌+◌, ◌-◌, ◌<◌, ◌≤◌, ◌++◌, ◌∷◌, [], List, Option, Some, None, length, drop, true, false, arith, subst, sym, ap, length-append}
+use Rattle.std.proofs.Common.{◌≡◌, ◌∙◌, suc, ◌-◌, ◌++◌, ◌∷◌, [], List, Some, true, arith, subst, sym, ap, length-append}
 use Rattle.std.proofs.lemmas.Bool.{false≢true}
 use Rattle.sdb_parse.specs.declared.expr.Expr.{Expr}
 use Rattle.sdb_parse.specs.declared.expr.Expr.TheVariants as tree
-use Rattle.sdb_parse.specs.declared.joint.Joint.TheVariants as joint
-use Rattle.sdb_parse.specs.declared.sign.Sign.TheVariants as sign
-use Rattle.sdb_parse.specs.declared.term.Term.{Term}
 use Rattle.sdb_parse.specs.Reading.{Reads, sees}
-use Rattle.sdb_parse.specs.Conditions.{grouped_at, joined_at, member_at, negated_at, separator, unary_at}
-use Rattle.sdb_parse.proofs.ListedLemmas.{Going, passed_on, began, began_badly, went, went_badly}
+use Rattle.sdb_parse.specs.Conditions.{grouped_at, joined_at, member_at, negated_at, separator}
+use Rattle.sdb_parse.proofs.ListedLemmas.{passed_on, began, began_badly, went, went_badly}
 use Rattle.sdb_parse.proofs.ConditionLemmas.{Members, unary_not, unary_open, unary_plain, negated_none, negated_bare, negated_badly, negated_done, grouped_none, grouped_bare, grouped_badly, grouped_unclosed, grouped_done, joined_badly, joined_one, joined_several}
 use Rattle.sdb_parse.proofs.condition.+condition.Goals as goal
 

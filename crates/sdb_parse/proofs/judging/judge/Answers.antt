@@ -2,7 +2,7 @@ use Rattle.std.proofs.Common.{◌≡◌, ℕ, Bool, not, ◌||◌, List, Option,
 use Rattle.sdb_tables.specs.declared.refusal.Refusal.{Refusal}
 use Rattle.sdb_parse.specs.declared.judging.Tally.{Tally}
 use Rattle.sdb_parse.specs.Judged.{names_of, predicates_of, verdict}
-use Rattle.sdb_parse.specs.Tally.{attr_of, by_attr, counted, nothing}
+use Rattle.sdb_parse.specs.Tally.{attr_of, counted, nothing}
 use Rattle.sdb_parse.proofs.JudgedLemmas.{judged_is}
 use Rattle.sdb_parse.proofs.judging.judge.Goals as goal
 

@@ -1,4 +1,4 @@
-use Rattle.std.proofs.Common.{◌≡◌, ◌∙◌, ◌++◌, ◌∷◌, [], List, ℕ, Some, drop, arith, subst, sym, ap}
+use Rattle.std.proofs.Common.{◌∙◌, ◌++◌, ◌∷◌, [], List, ℕ, arith, subst, sym, ap}
 use Rattle.sdb_parse.specs.declared.sign.Sign.TheVariants as sign
 use Rattle.sdb_parse.specs.Reading.{text_at, listed}
 use Rattle.sdb_parse.proofs.ListedLemmas.{Going, passed_on, began, began_badly, went, went_badly, ended}

@@ -1,6 +1,4 @@
 use Rattle.std.proofs.Common.{◌≡◌, List, ℕ, All, IsUtf8, sym, subst}
-use Rattle.sdb_lex.specs.declared.token.Token.{Token}
-use Rattle.sdb_parse.specs.declared.term.Term.{Term}
 use Rattle.sdb_parse.specs.Terms.{IsPiece, terms_of}
 use Rattle.sdb_parse.proofs.PieceLemmas.{are_pieces}
 use Rattle.sdb_parse.proofs.ReadLemmas.{cut_fails, none_read, not_bad, not_open, not_lacking}

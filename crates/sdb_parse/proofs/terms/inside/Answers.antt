@@ -1,6 +1,6 @@
 use Rattle.std.proofs.Common.{◌≡◌, ℕ, false, List, IsUtf8, slice_index_or, sym, ap, subst, ◌∙◌}
 use Rattle.std.proofs.lemmas.Bool.{false≢true}
-use Rattle.sdb_parse.specs.Terms.{inside, single}
+use Rattle.sdb_parse.specs.Terms.{single}
 use Rattle.sdb_parse.proofs.TermLemmas.{front_is, inside_is, single_utf8}
 use Rattle.sdb_parse.proofs.terms.inside.Goals as goal
 
