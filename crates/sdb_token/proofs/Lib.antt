@@ -1,0 +1,4 @@
+mod ByteLemmas
+mod PositionLemmas
+mod StripLemmas
+pub mod TokenLaws
