@@ -50,10 +50,12 @@ action_text DeleteAttributes = codes "DeleteAttributes"
 action_text BatchDeleteAttributes = codes "BatchDeleteAttributes"
 action_text Select = codes "Select"
 
+-- a name that no action has is InvalidAction
 abbrev pub one_of_ten : Option Action → Result Action Refusal
 one_of_ten None = Err InvalidAction
 one_of_ten (Some action) = Ok action
 
+-- and where there is none, the parameter is missing
 abbrev pub named_action : Option (List ℕ) → Result Action Refusal
 named_action None = Err MissingParameter
 named_action (Some name) = one_of_ten (action_named name)

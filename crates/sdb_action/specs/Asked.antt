@@ -26,10 +26,12 @@ token None = None
 token (Some []) = None
 token (Some (c ∷ cs)) = Some (c ∷ cs)
 
+-- what ListDomains asks for
 abbrev pub list_domains : NamedValues → Result Request Refusal
 list_domains params =
     and_then (fields_by params list_rows) (λ fields. Ok (request.ListDomains (most_domains (field_at fields 0)) (token (field_at fields 1))))
 
+-- what PutAttributes asks for
 abbrev pub put : NamedValues → Result Request Refusal
 put params =
     and_then (fields_by params item_rows) (λ fields.
@@ -39,6 +41,7 @@ put params =
     and_then (expectation params) (λ expected.
     Ok (request.Put domain (record { name = name; pairs = pairs }) expected))))))
 
+-- what DeleteAttributes asks for
 abbrev pub delete : NamedValues → Result Request Refusal
 delete params =
     and_then (fields_by params item_rows) (λ fields.
@@ -48,6 +51,7 @@ delete params =
     and_then (expectation params) (λ expected.
     Ok (request.Delete domain (record { name = name; parts = parts }) expected))))))
 
+-- what GetAttributes asks for
 abbrev pub get : NamedValues → Result Request Refusal
 get params =
     and_then (fields_by params get_rows) (λ fields.
@@ -55,12 +59,15 @@ get params =
     and_then (text_at fields 1) (λ name.
     and_then (asked_names params) (λ names. Ok (request.Get domain name names)))))
 
+-- what BatchPutAttributes asks for
 abbrev pub batch_put : NamedValues → Result Request Refusal
 batch_put params = and_then (domain params) (λ name. and_then (put_items params) (λ items. Ok (request.BatchPut name items)))
 
+-- what BatchDeleteAttributes asks for
 abbrev pub batch_delete : NamedValues → Result Request Refusal
 batch_delete params = and_then (domain params) (λ name. and_then (drop_items params) (λ items. Ok (request.BatchDelete name items)))
 
+-- what Select asks for
 abbrev pub select : NamedValues → Result Request Refusal
 select params =
     and_then (fields_by params select_rows) (λ fields.

@@ -25,6 +25,7 @@ abbrev pub value_at : ℕ → Option Part → List ℕ → Option (List ℕ × L
 value_at place None value = None
 value_at place (Some part) value = if part.0 == place then Some (part.1, value) else None
 
+-- the part that a parameter gives to the entry at a place
 abbrev pub part_in : EntryKind → ℕ → (List ℕ × List ℕ) → Option (List ℕ × List ℕ)
 part_in kind place param = value_at place (part_of kind param.0) param.1
 
@@ -41,5 +42,6 @@ abbrev pub there : NamedValues → Option NamedValues
 there [] = None
 there (part ∷ parts) = Some (part ∷ parts)
 
+-- the entry at a place, where it has a part
 abbrev pub entry_at : EntryKind → NamedValues → ℕ → Option NamedValues
 entry_at kind params place = there (parts_at kind params place)

@@ -33,6 +33,7 @@ some_entry (parts ∷ list) = Ok (parts ∷ list)
 
 -- ---- attributes
 
+-- an attribute of a put
 abbrev pub put_pair : NamedValues → Result PutPair Refusal
 put_pair parts =
     and_then (fields_by parts put_rows) (λ fields.
@@ -40,11 +41,13 @@ put_pair parts =
     and_then (text_at fields 1) (λ value.
     Ok (record { name = name; value = value; replace = flag_is (codes "true") (field_at fields 2) }))))
 
+-- an attribute of a deletion
 abbrev pub drop_part : NamedValues → Result DropPart Refusal
 drop_part parts =
     and_then (fields_by parts drop_rows) (λ fields.
     and_then (text_at fields 0) (λ name. Ok (record { name = name; value = field_at fields 1 })))
 
+-- an attribute name of a get
 abbrev pub asked_name : NamedValues → Result (List ℕ) Refusal
 asked_name parts = and_then (fields_by parts name_rows) (λ fields. text_at fields 0)
 
@@ -52,6 +55,7 @@ asked_name parts = and_then (fields_by parts name_rows) (λ fields. text_at fiel
 abbrev pub pairs_of : List NamedValues → Result (List PutPair) Refusal
 pairs_of list = and_then (at_most_256 list) (λ list. and_then (some_entry list) (λ some. each put_pair some))
 
+-- the attributes of a put
 abbrev pub put_pairs : NamedValues → Result (List PutPair) Refusal
 put_pairs params = pairs_of (entries Attribute params)
 
@@ -59,6 +63,7 @@ put_pairs params = pairs_of (entries Attribute params)
 abbrev pub parts_of : List NamedValues → Result (List DropPart) Refusal
 parts_of list = and_then (at_most_256 list) (λ list. each drop_part list)
 
+-- the attributes of a deletion
 abbrev pub drop_parts : NamedValues → Result (List DropPart) Refusal
 drop_parts params = parts_of (entries Attribute params)
 
@@ -72,9 +77,11 @@ asked_names params = and_then (at_most_256 (entries AttributeName params)) (λ l
 abbrev pub item_name : NamedValues → Result (List ℕ) Refusal
 item_name parts = and_then (fields_by parts item_name_rows) (λ fields. text_at fields 0)
 
+-- an item of a batch of puts
 abbrev pub put_item : NamedValues → Result PutItem Refusal
 put_item parts = and_then (item_name parts) (λ name. and_then (put_pairs parts) (λ pairs. Ok (record { name = name; pairs = pairs })))
 
+-- an item of a batch of deletions
 abbrev pub drop_item : NamedValues → Result DropItem Refusal
 drop_item parts = and_then (item_name parts) (λ name. and_then (drop_parts parts) (λ dropped. Ok (record { name = name; parts = dropped })))
 
@@ -95,9 +102,11 @@ each_once name items = if names_twice name items then Err DuplicateItemName else
 abbrev pub items_of : {A : Type 0} → (NamedValues → Result A Refusal) → (A → List ℕ) → NamedValues → Result (List A) Refusal
 items_of read name params = and_then (batch params) (λ list. and_then (each read list) (each_once name))
 
+-- the items of a batch of puts
 abbrev pub put_items : NamedValues → Result (List PutItem) Refusal
 put_items params = items_of put_item (λ item. item.name) params
 
+-- the items of a batch of deletions
 abbrev pub drop_items : NamedValues → Result (List DropItem) Refusal
 drop_items params = items_of drop_item (λ item. item.name) params
 
@@ -125,5 +134,6 @@ one_expectation [] = Ok None
 one_expectation (parts ∷ []) = and_then (expect parts) (λ expected. Ok (Some expected))
 one_expectation (parts ∷ more ∷ list) = Err MultipleExpectedNames
 
+-- the expectation of a write, where it has one
 abbrev pub expectation : NamedValues → Result (Option Expect) Refusal
 expectation params = one_expectation (entries Expected params)

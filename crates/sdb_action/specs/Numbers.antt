@@ -20,6 +20,7 @@ after_prefix (c ∷ cs) (d ∷ ds) = if c == d then after_prefix cs ds else None
 unfoldable pub place_of : List ℕ → Option ℕ
 place_of digits = option_map (λ number. number + 1) (decimal_of digits 9999)
 
+-- the byte between a name's words
 abbrev pub is_point : ℕ → Bool
 is_point c = c == 46
 
@@ -41,9 +42,11 @@ abbrev pub known : (List ℕ → Bool) → Option Part → Option Part
 known test None = None
 known test (Some part) = if test part.1 then Some part else None
 
+-- the parts of an attribute
 abbrev pub is_attribute_part : List ℕ → Bool
 is_attribute_part part = bytes_eq part (codes "Name") || bytes_eq part (codes "Value") || bytes_eq part (codes "Replace")
 
+-- the parts of an expectation
 abbrev pub is_expected_part : List ℕ → Bool
 is_expected_part part = bytes_eq part (codes "Name") || bytes_eq part (codes "Value") || bytes_eq part (codes "Exists")
 
@@ -69,6 +72,7 @@ name_part name =
 abbrev pub expected_rest : List ℕ → Option Part
 expected_rest rest = if is_expected_part rest then Some (0, rest) else known is_expected_part (numbered rest)
 
+-- the part of an expectation that a parameter's name tells
 unfoldable pub expected_part : List ℕ → Option Part
 expected_part name = option_and_then expected_rest (after_prefix (codes "Expected.") name)
 

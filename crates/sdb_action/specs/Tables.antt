@@ -22,9 +22,11 @@ pub record Row : Type 0 where
 abbrev pub seen : ParamRow → Row
 seen row = record { name = row.name.now; kind = row.kind; needed = row.needed }
 
+-- the row of a field that has to be there
 abbrev pub needed_row : List ℕ → FieldKind → Row
 needed_row name kind = record { name = name; kind = kind; needed = true }
 
+-- the row of a field that may be absent
 abbrev pub optional_row : List ℕ → FieldKind → Row
 optional_row name kind = record { name = name; kind = kind; needed = false }
 
@@ -34,6 +36,7 @@ abbrev pub judged_by : Row → Field → Result Field Refusal
 judged_by row None = if row.needed then Err MissingParameter else Ok None
 judged_by row (Some text) = if fits row.kind text then Ok (Some text) else Err InvalidParameterValue
 
+-- the field of a row
 abbrev pub field_by : NamedValues → Row → Result Field Refusal
 field_by params row = judged_by row (value_of params row.name)
 
@@ -49,6 +52,7 @@ domain_rows = needed_row (codes "DomainName") Domain ∷ []
 unfoldable pub item_rows : List Row
 item_rows = needed_row (codes "DomainName") Domain ∷ needed_row (codes "ItemName") Name ∷ []
 
+-- the fields of GetAttributes
 unfoldable pub get_rows : List Row
 get_rows =
     needed_row (codes "DomainName") Domain
@@ -59,9 +63,11 @@ get_rows =
     ∷
     []
 
+-- the fields of ListDomains
 unfoldable pub list_rows : List Row
 list_rows = optional_row (codes "MaxNumberOfDomains") (Number 1 100) ∷ optional_row (codes "NextToken") (Plain 1048576) ∷ []
 
+-- the fields of Select
 unfoldable pub select_rows : List Row
 select_rows =
     needed_row (codes "SelectExpression") (Plain 1048576)

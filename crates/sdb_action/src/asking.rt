@@ -1,3 +1,4 @@
+// The request that an action makes of parameters.
 ghost use Rattle.std.specs.Prelude.{◌≡◌};
 ghost use Rattle.std.specs.Option.{option_copied};
 ghost use Rattle.sdb_tables.specs.Answers.{Answers};

@@ -1,3 +1,4 @@
+// Reading every entry of a list, one after the other.
 ghost use Rattle.sdb_base.specs.Results as results;
 ghost use Rattle.sdb_tables.specs.Answers.{Answers};
 

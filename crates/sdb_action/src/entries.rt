@@ -1,3 +1,4 @@
+// The entries of a numbered list, found in one pass over the parameters.
 ghost use Rattle.std.specs.Prelude.{◌≡◌, ℕ, [], ◌∷◌, ◌++◌, ◌==◌, IfOk, OnOk, Some, unwrap_or, if◌then◌else◌};
 ghost use Rattle.std.specs.List.{find};
 ghost use Rattle.std.specs.Option.{option_copied};

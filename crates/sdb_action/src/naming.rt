@@ -1,3 +1,4 @@
+// Actions and their names.
 ghost use Rattle.std.specs.Prelude.{◌≡◌, Some};
 ghost use Rattle.sdb_action.specs.Actions.{action_named, action_of, action_text};
 

@@ -1,3 +1,4 @@
+// Names of parameters, taken apart into a list's word, a number and a part.
 ghost use Rattle.std.specs.Prelude.{◌≡◌, ℕ, option_map, option_and_then};
 ghost use Rattle.std.specs.Option.{option_copied};
 ghost use Rattle.sdb_action.specs.Numbers as names;

@@ -1,3 +1,4 @@
+// The attributes of puts, deletions and gets.
 ghost use Rattle.std.specs.Prelude.{◌≡◌};
 ghost use Rattle.sdb_tables.specs.Answers.{Answers};
 ghost use Rattle.sdb_action.specs.Lists as lists;

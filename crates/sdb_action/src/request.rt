@@ -1,3 +1,4 @@
+// Requests as values.
 use sdb_base::{List, Text, Texts};
 
 /// One pair of a put. With `replace` the values that the item has under this name go first.

@@ -20,11 +20,14 @@ is_name name = nat_le 1 (length name) && nat_le (length name) 1024 && is_utf8 na
 abbrev pub is_value : List ℕ → Bool
 is_value value = nat_le (length value) 1024 && is_utf8 value
 
+-- the same as propositions
 abbrev pub IsDomainName : List ℕ → Type 0
 IsDomainName name = IsTrue (is_domain_name name)
 
+-- the name of an item or an attribute
 abbrev pub IsName : List ℕ → Type 0
 IsName name = IsTrue (is_name name)
 
+-- a value
 abbrev pub IsValue : List ℕ → Type 0
 IsValue value = IsTrue (is_value value)

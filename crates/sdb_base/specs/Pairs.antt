@@ -4,6 +4,7 @@ use Rattle.std.specs.Str.{bytes_eq}
 use Rattle.std.specs.List.{IsDistinct}
 use Rattle.std.specs.Map.{lookup, keys_of}
 
+-- names with values, in an order
 abbrev pub NamedValues : Type 0
 NamedValues = List (List ℕ × List ℕ)
 

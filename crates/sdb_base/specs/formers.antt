@@ -1,2 +1,3 @@
+-- Which types may hold the type that holds them.
 pub mod boxed
 pub mod list

@@ -1,3 +1,4 @@
+// The number of an account.
 ghost use Rattle.std.specs.Prelude.{◌≤◌};
 
 use std::marker::Model;

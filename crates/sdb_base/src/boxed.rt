@@ -1,3 +1,4 @@
+// A value on the heap, which may hold the type that holds it.
 ghost use Rattle.std.specs.Prelude.{◌≡◌, IfOk};
 
 use crate::OutOfMemory;

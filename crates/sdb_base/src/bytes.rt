@@ -1,3 +1,4 @@
+// Bytes with room behind them.
 ghost use Rattle.std.specs.Prelude.{◌≡◌, ◌+◌, ◌≤◌, [], ◌++◌, length, IfOk, IsOk, OnOk, OnErr};
 
 use crate::OutOfMemory;

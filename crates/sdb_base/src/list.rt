@@ -1,3 +1,4 @@
+// Lists.
 ghost use Rattle.std.specs.Prelude.{◌≡◌, ◌<◌, List as Items, [], ◌∷◌, ◌++◌, length, slice_get, Some, OnOk, OnErr, IsTrue, ◌↔◌};
 
 use crate::{OutOfMemory, Text};

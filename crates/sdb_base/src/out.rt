@@ -1,3 +1,4 @@
+// An answer on its way to a connection.
 use crate::Bytes;
 
 /// An answer that is ready to be sent.

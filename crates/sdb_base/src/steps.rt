@@ -1,3 +1,4 @@
+// A counter that only proofs see.
 ghost use Rattle.std.specs.Prelude.{◌≡◌, ◌+◌, ℕ};
 ghost use Rattle.std.specs.Coded.{coded_ℕ};
 ghost use base.Fml.{ftrue};

@@ -1,3 +1,4 @@
+// Tests of texts, numbers and calls with ample memory.
 use super::*;
 use std::cmp::Ordering;
 use std::test::Fail;

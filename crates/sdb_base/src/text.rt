@@ -1,3 +1,4 @@
+// Texts in UTF-8, in order by their bytes.
 ghost use Rattle.std.specs.Prelude.{◌≡◌, Some, IfOk, IsUtf8, refl, string_bytes};
 ghost use Rattle.std.specs.Cmp.{partial_equiv_from_equiv};
 ghost use Rattle.std.specs.Cmp.Lexicographic.{slice_cmp, nat_list_eq_equiv, nat_list_cmp_total, texts_ties, texts_po};

@@ -17,15 +17,19 @@ has_unwritable text = list_any is_unwritable (chars text)
 abbrev pub is_special : ℕ → Bool
 is_special b = (b == 38) || (b == 60) || (b == 62) || (b == 13)
 
+-- what stands for `&`
 unfoldable pub ampersand : List ℕ
 ampersand = codes "&amp;"
 
+-- what stands for `<`
 unfoldable pub less : List ℕ
 less = codes "&lt;"
 
+-- what stands for `>`
 unfoldable pub greater : List ℕ
 greater = codes "&gt;"
 
+-- what stands for a carriage return
 unfoldable pub carriage_return : List ℕ
 carriage_return = codes "&#13;"
 
@@ -34,9 +38,11 @@ abbrev pub escape_of : ℕ → List ℕ
 escape_of b =
     if b == 38 then ampersand else (if b == 60 then less else (if b == 62 then greater else (if b == 13 then carriage_return else b ∷ [])))
 
+-- a text with its escapes
 abbrev pub escaped : List ℕ → List ℕ
 escaped text = flat_map escape_of text
 
+-- what a start tag has where its text is in base64
 unfoldable pub encoding : List ℕ
 encoding = codes " encoding=\"base64\">"
 

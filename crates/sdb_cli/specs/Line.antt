@@ -42,6 +42,7 @@ abbrev pub requested : NamedValues → Result Action Refusal → Result Request 
 requested params (Err refusal) = Err refusal
 requested params (Ok action) = if is_executed action then request_of action params else Err InvalidAction
 
+-- what is asked by parameters, where the form has them
 abbrev pub asked_by : Result NamedValues Refusal → Result Request Refusal
 asked_by (Err refusal) = Err refusal
 asked_by (Ok params) = requested params (action_of params)

@@ -2,11 +2,13 @@
 use Rattle.std.specs.Prelude.{ℕ, ◌+◌, ◌<◌, List, [], ◌∷◌, ◌++◌, ◌==◌, ◌⊎◌, length, replicate, not, IsTrue, if◌then◌else◌, ◌≡◌}
 use Rattle.std.specs.List.{slice_split, list_all}
 
+-- all parts but the last
 abbrev pub but_last : List (List ℕ) → List (List ℕ)
 but_last [] = []
 but_last (part ∷ []) = []
 but_last (part ∷ next ∷ parts) = part ∷ but_last (next ∷ parts)
 
+-- all parts, but for an empty last one
 abbrev pub but_empty_last : List (List ℕ) → List (List ℕ)
 but_empty_last [] = []
 but_empty_last (part ∷ []) = if length part == 0 then [] else part ∷ []

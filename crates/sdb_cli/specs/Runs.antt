@@ -57,6 +57,7 @@ abbrev pub StopsFront : (most : ℕ) → Standing → (left rest written all : O
 StopsFront most start left rest written all =
     (given : List ℕ) × Consumes left rest given × (length given ≤ most) × AppendsFront written all (told whole_lines start given)
 
+-- what holds where a run stops with a status
 abbrev pub Stops : Status → (most : ℕ) → Standing → (left rest written all : Option (List ℕ)) → Type 0
 Stops ReadFault = λ most start left rest written all. Keeps left rest × Keeps written all
 Stops OutOfMemory = StopsFront

@@ -3,6 +3,7 @@ use Rattle.std.specs.Prelude.{ℕ, List, codes}
 use Rattle.sdb_cli.specs.declared.status.Status.{Status}
 use Rattle.sdb_cli.specs.declared.status.Status.TheVariants.{Done, Usage, ReadFault, OutOfMemory, WriteFault, InputTooLong}
 
+-- the number with which the program ends
 abbrev pub number_of : Status → ℕ
 number_of Done = 0
 number_of Usage = 1
@@ -11,6 +12,7 @@ number_of OutOfMemory = 3
 number_of WriteFault = 4
 number_of InputTooLong = 10
 
+-- the line on standard error
 unfoldable pub line_of : Status → List ℕ
 line_of Done = codes ""
 line_of Usage = codes "sdb: usage: sdb bare | replay | serve PORT TURNS | check | bench N"

@@ -1,3 +1,4 @@
+// Numbers in decimal digits, as bodies have them.
 ghost use Rattle.std.specs.Prelude.{◌≡◌, ◌<◌, ◌≤◌, length};
 ghost use Rattle.sdb_cli.specs.Digits.{digit as glyph, padded};
 

@@ -1,3 +1,4 @@
+// Tests of the top call over inputs and outputs in memory.
 use crate::bare::bare;
 use crate::escape::append_element;
 use crate::{Status, run};

@@ -11,6 +11,7 @@ use Rattle.sdb_disk.specs.Past.{Unsynced}
 abbrev pub range_filled : List ℕ → ℕ → ℕ → ℕ → List ℕ
 range_filled content at n byte = take at content ++ replicate (min n (length content - at)) byte ++ drop (at + n) content
 
+-- the call is a sync of that file
 abbrev pub is_sync_of : Call → ℕ → Bool
 is_sync_of (Write f at n was) file = false
 is_sync_of (Cut f len was) file = false

@@ -3,6 +3,7 @@
 use Rattle.std.specs.Prelude.{ℕ, ◌^◌, false, []}
 use Rattle.sdb_disk.specs.Disk.{State}
 
+-- the state of a disk that tells nothing but its counts
 abbrev pub untold : ℕ → ℕ → State
 untold faults syncs = record {
   told = false;

@@ -5,6 +5,7 @@ use Rattle.sdb_disk.specs.declared.memory.MemoryDisk.{MemoryDisk}
 use Rattle.sdb_disk.specs.Disk.{State}
 use Rattle.sdb_disk.specs.Past.{contents, counted, state_of}
 
+-- the state of the disk in memory
 abbrev pub memory_state : MemoryDisk → State
 memory_state disk = state_of (contents disk.files) (reverse disk.calls.items) disk.faults
 
@@ -17,9 +18,11 @@ pub record Plan : Type 0 where
   -- the number of the next call
   pub number : ℕ
 
+-- which calls of the disk fail
 abbrev pub plan_of : MemoryDisk → Plan
 plan_of disk = record { fails = disk.fails; stop = disk.stop; number = disk.number }
 
+-- from that number on every call fails
 abbrev pub stopped : Option ℕ → ℕ → Bool
 stopped None number = false
 stopped (Some stop) number = nat_le stop number
@@ -28,5 +31,6 @@ stopped (Some stop) number = nat_le stop number
 abbrev pub refuses : Plan → Bool
 refuses plan = list_any (λ n. n == plan.number) plan.fails || stopped plan.stop plan.number
 
+-- the plan after one more call
 abbrev pub next_call : Plan → Plan
 next_call plan = record plan { number = counted plan.number }

@@ -9,15 +9,19 @@ use Rattle.sdb_disk.specs.declared.memory.Call.TheVariants.{Write, Cut, Sync}
 use Rattle.sdb_disk.specs.Disk.{Files, Passes}
 use Rattle.sdb_disk.specs.Past.{file_of, undone, before, Alike, LeavesAfter, Leaves, LeftSince, least_after, least, greatest_after, greatest, state_of}
 
+-- a choice by a true test is its first case
 pub MatchBool-from_true : (b : Bool) (P Q : Type 0) → b ≡ true → P → MatchBool b P Q
 MatchBool-from_true b P Q e p = subst (λ v. MatchBool v P Q) (sym e) p
 
+-- a choice by a false test is its second case
 pub MatchBool-from_false : (b : Bool) (P Q : Type 0) → b ≡ false → Q → MatchBool b P Q
 MatchBool-from_false b P Q e q = subst (λ v. MatchBool v P Q) (sym e) q
 
+-- the same of values, where the test is true
 pub if_true : {X : Type 0} (b : Bool) (x y : X) → b ≡ true → (if b then x else y) ≡ x
 if_true {X} b x y e = subst (λ (v : Bool). (if v then x else y) ≡ x) (sym e) refl
 
+-- and where it is false
 pub if_false : {X : Type 0} (b : Bool) (x y : X) → b ≡ false → (if b then x else y) ≡ y
 if_false {X} b x y e = subst (λ (v : Bool). (if v then x else y) ≡ y) (sym e) refl
 
@@ -25,6 +29,7 @@ if_false {X} b x y e = subst (λ (v : Bool). (if v then x else y) ≡ y) (sym e)
 pub before_other : (call : Call) (files : Files) (k : ℕ) → (k == file_of call) ≡ false → before call files k ≡ files k
 before_other call files k other = if_false (k == file_of call) _ _ other
 
+-- a call is taken back in its own file
 pub before_same : (call : Call) (files : Files) (k : ℕ) → (k == file_of call) ≡ true → before call files k ≡ undone call (files k)
 before_same call files k same = if_true (k == file_of call) _ _ same
 
@@ -58,9 +63,11 @@ Leaves-now files (call ∷ earlier) k c alike = elim (eqb_tells k (file_of call)
       same = λ j within synced. alike.same j within (λ unsynced. synced unsynced.1);
     }
 
+-- what a read gives may be what a crash leaves
 pub may_stay : (files : Files) (calls : List Call) (k : ℕ) → Leaves files calls k (files k)
 may_stay files calls k = Leaves-now files calls k (files k) (Alike-refl calls k (files k))
 
+-- a file is at least as long as its least length
 pub least_now : (files : Files) (calls : List Call) (k : ℕ) → least files calls k ≤ length (files k)
 least_now files [] k = omega arith
 least_now files (call ∷ earlier) k = elim (eqb_tells k (file_of call)) [
@@ -74,6 +81,7 @@ least_now files (call ∷ earlier) k = elim (eqb_tells k (file_of call)) [
     at_call (Cut file len was) = omega arith
     at_call (Sync file) = omega arith
 
+-- and at most as long as its greatest
 pub greatest_now : (files : Files) (calls : List Call) (k : ℕ) → length (files k) ≤ greatest files calls k
 greatest_now files [] k = omega arith
 greatest_now files (call ∷ earlier) k = elim (eqb_tells k (file_of call)) [
@@ -118,6 +126,7 @@ lengths files (call ∷ earlier) k c left = elim (eqb_tells k (file_of call)) [
         (omega arith, omega arith)
     at_call (Sync file) old left = let same : length c ≡ length (files k) = ap length left in (omega arith, omega arith)
 
+-- an image of now is one since every moment
 pub counts_now : (files : Files) (calls : List Call) (t : ℕ) (c : Files) → t ≤ length calls → ((k : ℕ) → Leaves files calls k (c k)) → LeftSince files calls t c
 counts_now files [] t c le image = (image, le)
 counts_now files (call ∷ earlier) t c le image = inl (image, le)
@@ -128,6 +137,7 @@ none_later files [] t c le left = let past = left.1 in absurd (omega arith)
 none_later files (call ∷ earlier) t c le (inl now) = let past = now.1 in absurd (omega arith)
 none_later files (call ∷ earlier) t c le (inr left) = none_later (before call files) earlier t c (omega arith) left
 
+-- since this moment there are the images of now alone
 pub only_now : (files : Files) (calls : List Call) (c : Files) → LeftSince files calls (length calls) c → (k : ℕ) → Leaves files calls k (c k)
 only_now files [] c left = left.0
 only_now files (call ∷ earlier) c (inl now) = now.0

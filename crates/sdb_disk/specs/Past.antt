@@ -16,6 +16,7 @@ contents [] k = []
 contents (v ∷ vs) zero = v.items
 contents (v ∷ vs) (suc k) = contents vs k
 
+-- the file of a call
 abbrev pub file_of : Call → ℕ
 file_of (Write file at count was) = file
 file_of (Cut file len was) = file
@@ -27,6 +28,7 @@ undone (Write file at count was) now = take at now ++ was.items ++ drop (at + co
 undone (Cut file len was) now = now ++ was.items
 undone (Sync file) now = now
 
+-- the files before a call
 abbrev pub before : Call → Files → Files
 before call files k = if k == file_of call then undone call (files k) else files k
 
@@ -60,6 +62,7 @@ LeavesAfter (Write file at count was) calls k now old c = Alike calls k now c �
 LeavesAfter (Cut file len was) calls k now old c = Alike calls k now c ⊎ ((d : List ℕ) × old d × CutTo len d c)
 LeavesAfter (Sync file) calls k now old c = c ≡ now
 
+-- what a crash may leave of a file after calls
 abbrev pub Leaves : Files → List Call → ℕ → List ℕ → Type 0
 Leaves files [] k c = c ≡ files k
 Leaves files (call ∷ earlier) k c = MatchBool (k == file_of call)
@@ -72,26 +75,31 @@ LeftSince files [] t c = ((k : ℕ) → Leaves files [] k (c k)) × (t ≤ 0)
 LeftSince files (call ∷ earlier) t c = (((k : ℕ) → Leaves files (call ∷ earlier) k (c k)) × (t ≤ suc (length earlier)))
     ⊎ LeftSince (before call files) earlier t c
 
+-- the least length of a file since its last sync, after a call on it
 abbrev pub least_after : Call → ℕ → ℕ → ℕ
 least_after (Write file at count was) now old = min now old
 least_after (Cut file len was) now old = min now (min old len)
 least_after (Sync file) now old = now
 
+-- the least length of a file since its last sync
 abbrev pub least : Files → List Call → ℕ → ℕ
 least files [] k = length (files k)
 least files (call ∷ earlier) k =
     if k == file_of call then least_after call (length (files k)) (least (before call files) earlier k) else least (before call files) earlier k
 
+-- the greatest length of a file since its last sync, after a call on it
 abbrev pub greatest_after : Call → ℕ → ℕ → ℕ
 greatest_after (Write file at count was) now old = max now (max old (at + count))
 greatest_after (Cut file len was) now old = max now old
 greatest_after (Sync file) now old = now
 
+-- the greatest length of a file since its last sync
 abbrev pub greatest : Files → List Call → ℕ → ℕ
 greatest files [] k = length (files k)
 greatest files (call ∷ earlier) k =
     if k == file_of call then greatest_after call (length (files k)) (greatest (before call files) earlier k) else greatest (before call files) earlier k
 
+-- how many syncs succeeded
 abbrev pub syncs_of : List Call → ℕ
 syncs_of [] = 0
 syncs_of (Write file at count was ∷ earlier) = syncs_of earlier

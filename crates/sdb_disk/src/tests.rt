@@ -1,3 +1,4 @@
+// Tests of the disk in memory, of crashes, and of real files.
 ghost use Rattle.std.specs.Prelude.{◌<◌};
 
 use super::*;

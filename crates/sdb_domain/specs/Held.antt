@@ -18,6 +18,7 @@ use Rattle.sdb_domain.specs.Sums.{row_sums, no_sums, exchanged}
 abbrev pub NameCounts : Type 0
 NameCounts = List (List ℕ × ℕ)
 
+-- the number of pairs of a name
 abbrev pub count_of : NameCounts → List ℕ → ℕ
 count_of names name = unwrap_or (found text_cmp names name) 0
 
@@ -25,6 +26,7 @@ count_of names name = unwrap_or (found text_cmp names name) 0
 abbrev pub raised : NameCounts → Pair → NameCounts
 raised names p = insert_entry text_cmp names p.name (count_of names p.name + 1)
 
+-- the counts with one pair of that name less
 abbrev pub lowered : NameCounts → Pair → NameCounts
 lowered names p = insert_entry text_cmp names p.name (count_of names p.name - 1)
 
@@ -32,6 +34,7 @@ lowered names p = insert_entry text_cmp names p.name (count_of names p.name - 1)
 abbrev pub recounted : NameCounts → List Pair → List Pair → NameCounts
 recounted names old new = fold raised (fold lowered names old) new
 
+-- the counts as they were before a step on a name
 abbrev pub name_undone : NameCounts → NameWas → NameCounts
 name_undone names was = back names was.name was.count
 
@@ -45,6 +48,7 @@ pub record Kept : Type 0 where
 abbrev pub items_kept : Kept → ItemEntries
 items_kept kept = seen item_with kept.rows
 
+-- a domain without items
 abbrev pub nothing_kept : Kept
 nothing_kept = record { rows = []; names = []; sums = no_sums }
 

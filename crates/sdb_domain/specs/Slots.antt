@@ -10,6 +10,7 @@ use Rattle.sdb_domain.specs.Held.{items_kept}
 use Rattle.sdb_domain.specs.Keyed.{seen}
 use Rattle.sdb_domain.specs.Weights.{domain_weight}
 
+-- domain names with what is kept of them
 abbrev pub Slots : Type 0
 Slots = List (List ℕ × Slot)
 
@@ -33,9 +34,11 @@ pub record AccountKept : Type 0 where
   pub count : ℕ
   pub weight : ℕ
 
+-- an account without domains
 abbrev pub no_account : AccountKept
 no_account = record { slots = []; count = 0; weight = 0 }
 
+-- the weight of a domain with its name
 abbrev pub weight_of_domain : List ℕ × ItemEntries → ℕ
 weight_of_domain domain = domain_weight domain.1
 
@@ -44,6 +47,7 @@ abbrev pub count_shown : Option ItemEntries → ℕ
 count_shown None = 0
 count_shown (Some items) = 1
 
+-- the weight of a domain that may be absent
 abbrev pub weight_shown : Option ItemEntries → ℕ
 weight_shown None = 0
 weight_shown (Some items) = domain_weight items
@@ -69,6 +73,7 @@ abbrev pub numbered : ℕ → List Domains → DomainEntries
 numbered n [] = []
 numbered n (domains ∷ more) = map (λ domain. ((n, domain.0), domain.1)) domains ++ numbered (n + 1) more
 
+-- the flat list of all accounts
 abbrev pub accounts_shown : List AccountKept → DomainEntries
 accounts_shown accounts = numbered 1 (map (λ account. domains_shown account.slots) accounts)
 

@@ -22,11 +22,13 @@ use Rattle.sdb_domain.specs.Undo.{row_undone}
 
 -- ---- which place a change is about
 
+-- the account of a change
 abbrev pub account_of : Change → ℕ
 account_of (MakeDomain account domain) = account
 account_of (DropDomain account domain) = account
 account_of (Edit account domain item ops) = account
 
+-- the domain of a change
 abbrev pub domain_of : Change → List ℕ
 domain_of (MakeDomain account domain) = domain
 domain_of (DropDomain account domain) = domain
@@ -40,16 +42,19 @@ items_after old (Edit account domain item ops) = Some (edited (unwrap_or old [])
 
 -- ---- one slot
 
+-- a slot that is closed to edits, or left open
 abbrev pub closed : Bool → Kept → Slot
 closed true kept = Settled (items_kept kept)
 closed false kept = Open kept
 
+-- slots as they were before a step on a row
 abbrev pub row_step_undone : Slots → List ℕ → Bool → RowWas → Option Slot → Slots
 row_step_undone slots name settled was None = slots
 row_step_undone slots name settled was (Some (Settled items)) = slots
 row_step_undone slots name settled was (Some (Open kept)) = set_value (is_at (text_cmp name)) slots (closed settled (row_undone kept was))
 row_step_undone slots name settled was (Some Dropped) = slots
 
+-- slots as they were before a step
 abbrev pub step_undone : Slots → List ℕ → Step → Slots
 step_undone slots name Same = slots
 step_undone slots name (SlotWas was) = back slots name was
@@ -62,6 +67,7 @@ CanUndoRow was (Some (Settled items)) = ⊥
 CanUndoRow was (Some (Open kept)) = IsWhole (row_undone kept was)
 CanUndoRow was (Some Dropped) = ⊥
 
+-- what taking a step back needs
 abbrev pub CanUndoStep : Slots → List ℕ → Step → Type 0
 CanUndoStep slots name Same = Unit {0}
 CanUndoStep slots name (SlotWas was) = Unit {0}
@@ -83,9 +89,11 @@ pub record Settles (old new : Slots) (name : List ℕ) : Type 0 where
 
 -- ---- one account
 
+-- an account as it was before a step
 abbrev pub account_undone : AccountKept → Undo → AccountKept
 account_undone account undo = record { slots = step_undone account.slots undo.name undo.step; count = undo.count; weight = undo.weight }
 
+-- what taking back a step on an account needs
 pub record CanUndoAccount (account : AccountKept) (undo : Undo) : Type 0 where
   pub whole : IsWholeAccount (account_undone account undo)
   pub step : CanUndoStep account.slots undo.name undo.step
@@ -101,6 +109,7 @@ pub record AccountSteps (old new : AccountKept) (change : Change) (undo : Undo) 
 
 -- ---- all accounts
 
+-- all accounts as they were before a step
 abbrev pub all_undone : List AccountKept → Undo → List AccountKept
 all_undone accounts undo = set accounts (undo.account - 1) (account_undone (account_at accounts (undo.account - 1)) undo)
 

@@ -4,6 +4,7 @@ use Rattle.sdb_pairs.specs.declared.pair.Pair.{Pair}
 use Rattle.sdb_domain.specs.declared.sums.Sums.{Sums}
 use Rattle.sdb_domain.specs.Weights.{item_weight, value_bytes_of}
 
+-- the sums over no items
 abbrev pub no_sums : Sums
 no_sums = record { items = 0; item_bytes = 0; pairs = 0; value_bytes = 0; weight = 0 }
 

@@ -1,3 +1,4 @@
+// The domains of one account, and one step of a change there.
 ghost use Rattle.std.specs.Prelude.{◌≡◌, ◌+◌, ◌-◌, ◌<◌, IfOk, OnErr, length, IfSome, option_map, false, List, ℕ};
 ghost use Rattle.std.specs.List.{sum_by};
 ghost use Rattle.std.specs.Option.{option_copied};

@@ -1,3 +1,4 @@
+// All accounts, and changes applied whole or not at all.
 ghost use Rattle.std.specs.Prelude.{◌≡◌, ◌-◌, ◌≤◌, ◌<◌, ◌+◌, OnOk, OnErr, option_map, length, List, [], ◌∷◌, ℕ, replicate};
 ghost use Rattle.std.specs.Option.{option_copied};
 ghost use Rattle.sdb_pairs.specs.Accounts.{AreAccounts, items_of};

@@ -1,3 +1,4 @@
+// One domain, as callers see it.
 ghost use Rattle.std.specs.Prelude.{◌≡◌, ◌+◌, option_map, length, List, ℕ};
 ghost use Rattle.sdb_pairs.specs.declared.pair.Pair.{Pair};
 ghost use Rattle.std.specs.Option.{option_copied};

@@ -1,3 +1,4 @@
+// What is kept of a domain while changes are applied.
 ghost use Rattle.std.specs.Prelude.{◌≡◌, IfOk, OnOk, OnErr, option_map, length, List, ℕ, [], true, Some};
 ghost use Rattle.sdb_pairs.specs.declared.pair.Pair.{Pair};
 ghost use Rattle.std.specs.Option.{option_copied};

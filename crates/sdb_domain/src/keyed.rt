@@ -1,3 +1,4 @@
+// Entries of an ordered map, written and put back.
 ghost use Rattle.std.specs.Prelude.{◌≡◌, ◌^◌, ◌<◌, length, [], IfOk, OnOk, OnErr, IfSome, option_map};
 ghost use Rattle.std.specs.Option.{option_copied};
 ghost use Rattle.std.specs.Map.{remove_entry, set_value};

@@ -1,3 +1,4 @@
+// Laws of look-ups, each the contract of a function.
 ghost use Rattle.sdb_domain.specs.Laws.{EntriesBehind, WalksGiveAll};
 
 /// A scan from name to name meets the items in order, each once: all that are above the name that it begins at, and from no

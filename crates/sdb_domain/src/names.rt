@@ -1,3 +1,4 @@
+// The count of each attribute name of a domain.
 ghost use Rattle.std.specs.Prelude.{◌≡◌, ◌+◌, ◌-◌, ◌≤◌, fold, length, IfOk, OnOk, OnErr, List, ℕ};
 ghost use Rattle.std.specs.BTreeMap.{insert_entry};
 ghost use Rattle.std.specs.List.{sum_by};

@@ -1,3 +1,4 @@
+// A place for a domain: settled, open to edits, or dropped.
 ghost use Rattle.std.specs.Prelude.{◌≡◌, ◌<◌, IfOk, OnErr, Some, None, unwrap_or, is_some, IsSome, IsOk, []};
 ghost use Rattle.sdb_base.specs.Texts.{text_cmp};
 ghost use Rattle.sdb_pairs.specs.Changes.{edited};

@@ -1,3 +1,4 @@
+// Sums over the items of a domain.
 ghost use Rattle.std.specs.Prelude.{◌≡◌, ◌+◌, ◌-◌, IfSome};
 ghost use Rattle.std.specs.List.{sum_by};
 ghost use Rattle.sdb_domain.specs.Weights.{pair_weight, value_bytes_of};

@@ -1,3 +1,4 @@
+// Tests of changes, look-ups and numbers.
 use super::*;
 use sdb_base::{AccountId, OutOfMemory, Steps, Text};
 use sdb_pairs::{Change, Changes, Op, Ops, Pair};

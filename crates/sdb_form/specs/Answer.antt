@@ -16,6 +16,7 @@ IsFault form (variant.NotUtf8 place) = IsFirstNotUtf8 form place
 IsFault form (variant.Repeated place) = IsFirstRepeated form place
 IsFault form variant.OutOfMemory = ⊤
 
+-- what a form may be answered
 abbrev pub IsAnswer : List ℕ → Result NamedValues FormFault → Type 0
 IsAnswer form (Ok params) = IsParams form params
 IsAnswer form (Err fault) = IsFault form fault

@@ -1,3 +1,4 @@
+// Why a form is refused.
 ghost use Rattle.std.specs.Prelude.{◌≡◌};
 ghost use Rattle.sdb_form.specs.declared.fault.FormFault.TheVariants as variant;
 

@@ -1,3 +1,4 @@
+// Laws of forms, each the contract of a function.
 ghost use Rattle.std.specs.Prelude.{◌≡◌, ◌≢◌, ℕ, List, Result, Err};
 ghost use Rattle.sdb_base.specs.Pairs.{NamedValues};
 ghost use Rattle.sdb_form.specs.declared.fault.FormFault.{FormFault};

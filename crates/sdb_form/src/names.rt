@@ -1,3 +1,4 @@
+// The first name that stands earlier.
 ghost use Rattle.std.specs.Prelude.{◌≡◌, IfOk, MatchOption};
 ghost use Rattle.std.specs.Map.{keys_of};
 ghost use Rattle.sdb_base.specs.Pairs.{HasDistinctNames};

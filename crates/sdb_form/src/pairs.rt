@@ -1,3 +1,4 @@
+// The pairs of a form, decoded.
 ghost use Rattle.std.specs.Prelude.{◌≡◌, All, IfOk, IfErr, MatchOption};
 ghost use Rattle.form_urlencoded.specs.Form.{decode, parse};
 ghost use Rattle.sdb_form.specs.Answer.{IsFault};

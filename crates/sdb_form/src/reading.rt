@@ -1,3 +1,4 @@
+// A form to its parameters.
 ghost use Rattle.std.specs.Prelude.{◌≡◌, ◌≢◌, ◌↔◌, ℕ, List, IfOk, Ok, Err};
 ghost use Rattle.sdb_form.specs.Form.{IsParams, IsFirstNotUtf8, IsFirstRepeated};
 ghost use Rattle.sdb_form.specs.Answer.{IsAnswer, params_of};

@@ -1,3 +1,4 @@
+// A raw text to the text that it stands for.
 ghost use Rattle.std.specs.Prelude.{◌≡◌, IfOk, MatchOption, IsUtf8, if◌then◌else◌, ◌==◌, map};
 ghost use Rattle.std.specs.List.{list_all};
 ghost use Rattle.form_urlencoded.specs.Form.{decode, plus_to_space};

@@ -76,6 +76,7 @@ pub record IsTextWithin (least most : ℕ) (text : List ℕ) : Type 0 where
 abbrev pub passing_at : (ℕ → Bool) → ℕ → Reader (List ℕ)
 passing_at p n = times_at n (byte_where p)
 
+-- so many bytes, each of which passes
 pub record ArePassing (p : ℕ → Bool) (n : ℕ) (bytes : List ℕ) : Type 0 where
   pub size : length bytes ≡ n
   pub pass : list_all p bytes ≡ true

@@ -1,3 +1,4 @@
+// Why bytes are refused.
 use thiserror::Error;
 
 /// Why bytes don't begin with a value of a format.

@@ -1,3 +1,4 @@
+// Laws of formats, each the contract of a function.
 ghost use Rattle.sdb_format.specs.Laws.{LettersAreAFormat, NumbersAreFormats, TextsAreAFormat};
 
 /// Numbers of one, two and four bytes are read exactly: the number whose bytes begin the list, Short where more

@@ -1,3 +1,4 @@
+// Characters of UTF-8 where not all bytes are there.
 ghost use Rattle.std.specs.Prelude.{◌≡◌, ◌<◌, ◌≤◌, ◌+◌, ◌^◌, length, IfOk, IfErr, Ok, Err, IsTrue, Bool};
 ghost use Rattle.sdb_format.specs.Letters.{letters_at};
 

@@ -1,3 +1,4 @@
+// Numbers of one, two and four bytes.
 ghost use Rattle.std.specs.Prelude.{◌≡◌, ◌<◌, ◌≤◌, ◌^◌, IfOk, IfErr, Ok, Err};
 ghost use Rattle.sdb_format.specs.Numbers.{byte_in, u16_in, u32_at};
 

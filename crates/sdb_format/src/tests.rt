@@ -1,3 +1,4 @@
+// Tests of numbers and texts.
 use super::*;
 use std::test::Fail;
 

@@ -1,3 +1,4 @@
+// Texts behind their length.
 ghost use Rattle.std.specs.Prelude.{◌≡◌, ◌<◌, ◌≤◌, ◌^◌, IfOk, IfErr, Ok, Err};
 ghost use Rattle.sdb_format.specs.Letters.{text_in};
 

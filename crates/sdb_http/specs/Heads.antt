@@ -43,21 +43,27 @@ Verdict = Result Shape HttpFault
 unfoldable pub transfer_encoding : List ℕ
 transfer_encoding = codes "transfer-encoding"
 
+-- the names of the headers that are looked at, in lower case
 unfoldable pub content_length : List ℕ
 content_length = codes "content-length"
 
+-- of the host
 unfoldable pub host_name : List ℕ
 host_name = codes "host"
 
+-- of what happens to the connection
 unfoldable pub connection : List ℕ
 connection = codes "connection"
 
+-- the word that closes it
 unfoldable pub close_word : List ℕ
 close_word = codes "close"
 
+-- the methods
 unfoldable pub get_word : List ℕ
 get_word = codes "GET"
 
+-- of a form in the body
 unfoldable pub post_word : List ℕ
 post_word = codes "POST"
 

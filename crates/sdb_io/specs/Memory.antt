@@ -5,6 +5,7 @@ use Rattle.std.specs.Prelude.{ℕ, ◌+◌, ◌-◌, ◌^◌, min, List}
 abbrev pub counted : ℕ → ℕ
 counted n = min (n + 1) (2 ^ 64 - 1)
 
+-- a source in memory
 pub record SourceState : Type 0 where
   pub left : List ℕ
   -- the numbers of the calls that fail
@@ -13,6 +14,7 @@ pub record SourceState : Type 0 where
   pub calls : ℕ
   pub faults : ℕ
 
+-- a sink in memory
 pub record SinkState : Type 0 where
   pub written : List ℕ
   -- the numbers of the calls that fail

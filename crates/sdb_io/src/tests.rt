@@ -1,3 +1,4 @@
+// Tests of sources and sinks, in memory and over streams.
 ghost use Rattle.std.specs.Prelude.{◌≤◌, IfOk};
 
 use super::*;

@@ -1,3 +1,4 @@
+// A journal that is open for records.
 ghost use Rattle.std.specs.Prelude.{◌≡◌, ◌<◌, ◌≤◌, ◌+◌, ◌^◌, ℕ, List, [], ◌∷◌, ◌++◌, length, IsTrue, IfOk, OnOk, OnErr, Some};
 ghost use Rattle.sdb_base.specs.Causes.{HasCause};
 ghost use Rattle.sdb_disk.specs.Disk.{SettledFile, LeavesOnly, Elapses};

@@ -38,6 +38,7 @@ pub record IsLawfulEdit (item : List ℕ) (ops : List Op) : Type 0 where
   pub few : length ops < 2 ^ 16
   pub each : All IsLawfulOp ops
 
+-- a change within the limits
 abbrev pub IsLawfulChange : Change → Type 0
 IsLawfulChange (MakeDomain account domain) = IsDomainKey account domain
 IsLawfulChange (DropDomain account domain) = IsDomainKey account domain

@@ -27,6 +27,7 @@ pub record EditLeaves (accounts : DomainEntries) (account : ℕ) (domain item : 
   pub other_items : (other : List ℕ) → other ≢ item → pairs_of new account domain other ≡ pairs_of accounts account domain other
   pub other_domains : (other : ℕ × List ℕ) → other ≢ (account, domain) → items_of new other.0 other.1 ≡ items_of accounts other.0 other.1
 
+-- an edit changes one item
 abbrev pub EditChangesOneItem : Type 0
 EditChangesOneItem = (accounts : DomainEntries) (account : ℕ) (domain item : List ℕ) (ops : List Op) → AreAccounts accounts → EditLeaves accounts account domain item ops (after_change accounts (Edit account domain item ops))
 
@@ -36,6 +37,7 @@ pub record MakeLeaves (accounts : DomainEntries) (account : ℕ) (domain : List 
   pub same_items : items_or_none new account domain ≡ items_or_none accounts account domain
   pub other_domains : (other : ℕ × List ℕ) → other ≢ (account, domain) → items_of new other.0 other.1 ≡ items_of accounts other.0 other.1
 
+-- making a domain changes one domain
 abbrev pub MakeChangesOneDomain : Type 0
 MakeChangesOneDomain = (accounts : DomainEntries) (account : ℕ) (domain : List ℕ) → AreAccounts accounts → MakeLeaves accounts account domain (after_change accounts (MakeDomain account domain))
 
@@ -44,6 +46,7 @@ pub record DropLeaves (accounts : DomainEntries) (account : ℕ) (domain : List 
   pub dropped : items_of new account domain ≡ None
   pub other_domains : (other : ℕ × List ℕ) → other ≢ (account, domain) → items_of new other.0 other.1 ≡ items_of accounts other.0 other.1
 
+-- dropping a domain changes one domain
 abbrev pub DropChangesOneDomain : Type 0
 DropChangesOneDomain = (accounts : DomainEntries) (account : ℕ) (domain : List ℕ) → AreAccounts accounts → DropLeaves accounts account domain (after_change accounts (DropDomain account domain))
 
@@ -97,6 +100,7 @@ abbrev pub part_op : Part → Op
 part_op (whole_name name) = DropName name
 part_op (one_pair p) = DropPair p
 
+-- the operations of a deletion: without parts it drops every pair
 abbrev pub del_ops : List Part → List Op
 del_ops [] = DropAll ∷ []
 del_ops (part ∷ parts) = map part_op (part ∷ parts)

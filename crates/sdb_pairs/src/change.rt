@@ -1,3 +1,4 @@
+// Changes to accounts.
 use crate::op::Ops;
 use sdb_base::{AccountId, List, Text};
 

@@ -1,3 +1,4 @@
+// Operations on a list of pairs, in place.
 ghost use Rattle.std.specs.Prelude.{◌≡◌, length, filter, IfOk};
 ghost use Rattle.sdb_pairs.specs.Additions.{is_addition};
 ghost use Rattle.sdb_pairs.specs.Pairs.{merged};

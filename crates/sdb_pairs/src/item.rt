@@ -1,3 +1,4 @@
+// Items: sets of pairs in order.
 ghost use Rattle.std.specs.Prelude.{◌≡◌, ◌≤◌, not, [], length, slice_range, filter, IfOk, OnOk, OnErr};
 ghost use Rattle.std.specs.List.{remove_range};
 ghost use Rattle.std.specs.List.Sorted.{IsStrictlySortedBy};

@@ -1,3 +1,4 @@
+// Laws of changes, each the contract of a function.
 ghost use Rattle.sdb_pairs.specs.Laws.{ChangesKeepAccountsRising, DeletesAreEdits, DropChangesOneDomain, EditChangesOneItem, MakeChangesOneDomain, OwnChangesAreLawful, OwnChangesRebuild, PlacesSettle, PlacesTellAll, PutsAreEdits, StateOfJoined};
 
 /// Accounts stay in rising order, item names and pairs too, whatever changes are applied.

@@ -1,3 +1,4 @@
+// What an answer shows of items.
 ghost use Rattle.std.specs.Prelude.{◌≡◌, [], ◌∷◌, ◌++◌, ◌↔◌, length, IsTrue, OnOk, OnErr};
 ghost use Rattle.sdb_pairs.specs.Listing.{lent, ShownItem};
 

@@ -1,3 +1,4 @@
+// Operations on an item.
 use crate::pair::Pair;
 use sdb_base::{List, Text};
 

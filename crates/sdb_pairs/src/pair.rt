@@ -1,3 +1,4 @@
+// A name with a value.
 ghost use Rattle.std.specs.Prelude.{◌≡◌, IfOk};
 
 use sdb_base::{OutOfMemory, Text};

@@ -1,3 +1,4 @@
+// Tests of items and operations.
 use super::*;
 use sdb_base::{OutOfMemory, Text};
 use std::alloc::Global;

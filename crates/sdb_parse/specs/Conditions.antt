@@ -25,32 +25,39 @@ compared s text =
     (if same s sign.Greater then Some (test.Gt text) else
     (if same s sign.GreaterEqual then Some (test.Ge text) else None)))))
 
+-- the test of a comparison, where the sign is one
 abbrev pub compared_with : Option Test → Reader Test
 compared_with None rest = None
 compared_with (Some t) rest = Some (t, rest)
 
+-- a sign of comparison and a text
 unfoldable pub comparison_at : Reader Test
 comparison_at [] = None
 comparison_at (t ∷ ts) = chain (text_at sign.Quoted ts) (λ text rest. compared_with (compared t.sign text) rest)
 
+-- `like` and a pattern
 unfoldable pub like_at : Reader (List ℕ)
 like_at ts = chain (expect sign.Like ts) (λ _ a. text_at sign.Quoted a)
 
+-- `between` and its two ends
 unfoldable pub between_at : Reader Test
 between_at ts =
     chain (expect sign.Between ts) (λ _ a. chain (text_at sign.Quoted a) (λ low b.
     chain (expect sign.And b) (λ _ c. chain (text_at sign.Quoted c) (λ high rest. Some (test.Between low high, rest)))))
 
+-- `in` and its constants
 unfoldable pub one_of_at : Reader Test
 one_of_at ts =
     chain (expect sign.In ts) (λ _ a. chain (expect sign.Open a) (λ _ b.
     chain (listed sign.Comma (text_at sign.Quoted) b) (λ texts c. chain (expect sign.Close c) (λ _ rest. Some (test.OneOf texts, rest)))))
 
+-- `is null` or `is not null`
 unfoldable pub null_test_at : Reader Test
 null_test_at ts = chain (expect sign.Is ts) (λ _ a.
     if sees sign.Not a then chain (expect sign.Not a) (λ _ b. chain (expect sign.Null b) (λ _ rest. Some (test.IsNotNull, rest))) else
     chain (expect sign.Null a) (λ _ rest. Some (test.IsNull, rest)))
 
+-- any test
 unfoldable pub test_at : Reader Test
 test_at ts =
     if sees sign.Like ts then chain (like_at ts) (λ text rest. Some (test.Like text, rest)) else
@@ -59,25 +66,30 @@ test_at ts =
     (if sees sign.In ts then one_of_at ts else
     (if sees sign.Is ts then null_test_at ts else comparison_at ts))))
 
+-- `every` and its attribute
 unfoldable pub every_at : Reader Operand
 every_at ts =
     chain (expect sign.Every ts) (λ _ a. chain (expect sign.Open a) (λ _ b.
     chain (attr_at b) (λ attr c. chain (expect sign.Close c) (λ _ rest. Some (operand.Every attr, rest)))))
 
+-- what a test is asked of
 unfoldable pub operand_at : Reader Operand
 operand_at ts =
     if sees_call sign.ItemName ts then chain (item_name_at ts) (λ _ rest. Some (operand.ItemName, rest)) else
     (if sees sign.Every ts then every_at ts else chain (attr_at ts) (λ attr rest. Some (operand.Attr attr, rest)))
 
+-- a test for the absence or presence of a value
 abbrev pub is_null_test : Test → Bool
 is_null_test test.IsNull = true
 is_null_test test.IsNotNull = true
 is_null_test _ = false
 
+-- an operand of `every`
 abbrev pub is_every : Operand → Bool
 is_every (operand.Every attr) = true
 is_every _ = false
 
+-- an operand and its test; `every` has no null test
 unfoldable pub predicate_at : Reader Expr
 predicate_at ts = chain (operand_at ts) (λ o mid. chain (test_at mid) (λ t rest.
     if is_every o && is_null_test t then None else Some (tree.Pred o t, rest)))
@@ -101,6 +113,7 @@ abbrev pub join : Joint → Expr → List Expr → Expr
 join j first [] = first
 join j first (e ∷ es) = joined_by j (first ∷ e ∷ es)
 
+-- members joined, where there is one
 abbrev pub whole : Joint → List Expr → Reader Expr
 whole j [] rest = None
 whole j (first ∷ es) rest = Some (join j first es, rest)
@@ -130,14 +143,17 @@ unary_at zero ts = if sees sign.Not ts then None else (if sees sign.Open ts then
 unary_at (suc d) ts =
     if sees sign.Not ts then negated_by (unary_at d) ts else (if sees sign.Open ts then grouped_by (unary_at d) ts else predicate_at ts)
 
+-- `not` and what it negates, within the allowance
 unfoldable pub negated_at : ℕ → Reader Expr
 negated_at zero ts = None
 negated_at (suc d) ts = negated_by (unary_at d) ts
 
+-- a condition in parentheses, within the allowance
 unfoldable pub grouped_at : ℕ → Reader Expr
 grouped_at zero ts = None
 grouped_at (suc d) ts = grouped_by (unary_at d) ts
 
+-- members between joints
 unfoldable pub joined_at : Joint → ℕ → Reader Expr
 joined_at j d = joined_with j (unary_at d)
 

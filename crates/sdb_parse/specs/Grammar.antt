@@ -60,6 +60,7 @@ pub data Listing {A : Type 0} (s : Sign) (Item : List Term → A → List Term �
 
 -- ---- predicates
 
+-- a test
 pub data IsTest : List Term → Test → List Term → Type 0 where
   compares : (t q : Term) (rest : List Term) (asked : Test) → compared t.sign q.text ≡ Some asked → q.sign ≡ sign.Quoted → IsTest (t ∷ q ∷ rest) asked rest
   likes : (w q : Term) (rest : List Term) → w.sign ≡ sign.Like → q.sign ≡ sign.Quoted → IsTest (w ∷ q ∷ rest) (test.Like q.text) rest
@@ -71,6 +72,7 @@ pub data IsTest : List Term → Test → List Term → Type 0 where
   null : (i n : Term) (rest : List Term) → i.sign ≡ sign.Is → n.sign ≡ sign.Null → IsTest (i ∷ n ∷ rest) test.IsNull rest
   not_null : (i m n : Term) (rest : List Term) → i.sign ≡ sign.Is → m.sign ≡ sign.Not → n.sign ≡ sign.Null → IsTest (i ∷ m ∷ n ∷ rest) test.IsNotNull rest
 
+-- what a test is asked of
 pub data IsOperand : List Term → Operand → List Term → Type 0 where
   some_value : (ts : List Term) (name : List ℕ) (rest : List Term) → IsAttr ts name rest → IsOperand ts (operand.Attr name) rest
   every_value : (e o c : Term) (ts rest : List Term) (name : List ℕ) → e.sign ≡ sign.Every → o.sign ≡ sign.Open → IsAttr ts name (c ∷ rest) → c.sign ≡ sign.Close
@@ -112,6 +114,7 @@ mutual
 abbrev pub most_depth : ℕ
 most_depth = 32
 
+-- a limit is 1 to 2500
 abbrev pub lawful_limit : Option ℕ → Option ℕ
 lawful_limit None = None
 lawful_limit (Some n) = if n == 0 then None else Some n
@@ -125,6 +128,7 @@ pub data IsLimit : List Term → Option ℕ → Type 0 where
   no_limit : IsLimit [] None
   limited : (w d : Term) (n : ℕ) → w.sign ≡ sign.Limit → d.sign ≡ sign.Digits → limit_of d.text ≡ Some n → IsLimit (w ∷ d ∷ []) (Some n)
 
+-- what is sorted by
 pub data IsKey : List Term → SortKey → List Term → Type 0 where
   by_attr : (ts : List Term) (name : List ℕ) (rest : List Term) → IsAttr ts name rest → IsKey ts (key.Attr name) rest
   by_item_name : (ts rest : List Term) → IsItemName ts rest → IsKey ts key.ItemName rest
@@ -147,6 +151,7 @@ pub data IsFiltered : List Term → Option Expr → Option Sort → Option ℕ �
   filtered : (w : Term) (ts mid : List Term) (e : Expr) (sort : Option Sort) (limit : Option ℕ) → w.sign ≡ sign.Where → Spells (Joined joint.Or) most_depth ts e mid
       → IsSorted mid sort limit → IsFiltered (w ∷ ts) (Some e) sort limit
 
+-- what is shown
 pub data IsOutput : List Term → Output → List Term → Type 0 where
   all : (t : Term) (rest : List Term) → t.sign ≡ sign.Star → IsOutput (t ∷ rest) output.All rest
   names : (ts rest : List Term) → IsItemName ts rest → IsOutput ts output.Names rest

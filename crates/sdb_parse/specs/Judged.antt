@@ -17,9 +17,11 @@ use Rattle.sdb_parse.specs.declared.select.SortKey.TheVariants as key
 use Rattle.sdb_parse.specs.declared.test.Test.{Test}
 use Rattle.sdb_parse.specs.declared.test.Test.TheVariants as test
 
+-- an operand with its test
 abbrev pub Predicate : Type 0
 Predicate = Operand × Test
 
+-- the predicates of one level
 abbrev pub predicates_here : Expr-F (List Predicate) → List Predicate
 predicates_here (level.Pred o t) = (o, t) ∷ []
 predicates_here (level.Not inner) = inner
@@ -31,6 +33,7 @@ predicates_here (level.Inter members) = flat_map (λ m. m) members
 unfoldable pub predicates : Expr → List Predicate
 predicates e = fold-Expr (List Predicate) predicates_here e
 
+-- the predicates of a condition that may be absent
 abbrev pub predicates_of : Option Expr → List Predicate
 predicates_of None = []
 predicates_of (Some e) = predicates e
@@ -40,11 +43,13 @@ abbrev pub is_long : Test → Bool
 is_long (test.OneOf texts) = nat_lt 20 (length texts)
 is_long _ = false
 
+-- the operand is on that attribute
 abbrev pub is_on : List ℕ → Operand → Bool
 is_on name (operand.Attr attr) = bytes_eq attr name
 is_on name (operand.Every attr) = bytes_eq attr name
 is_on name operand.ItemName = false
 
+-- the test for absence
 abbrev pub is_absence : Test → Bool
 is_absence test.IsNull = true
 is_absence _ = false
@@ -58,10 +63,12 @@ abbrev pub may_sort_by : List Predicate → SortKey → Bool
 may_sort_by ps key.ItemName = true
 may_sort_by ps (key.Attr name) = list_any (stands_in name) ps
 
+-- the sort attribute stands in a predicate that counts
 abbrev pub may_sort : List Predicate → Option Sort → Bool
 may_sort ps None = true
 may_sort ps (Some sort) = may_sort_by ps sort.by
 
+-- how many attributes are asked for
 abbrev pub names_of : Output → ℕ
 names_of (output.Listed names) = length names
 names_of _ = 0

@@ -10,6 +10,7 @@ use Rattle.sdb_parse.specs.Conditions.{is_every, is_null_test}
 abbrev pub are_lawful : List Bool → Bool
 are_lawful members = nat_le 2 (length members) && list_all (λ m. m) members
 
+-- one level of a condition is lawful
 abbrev pub lawful_here : Expr-F Bool → Bool
 lawful_here (level.Pred o t) = not (is_every o && is_null_test t)
 lawful_here (level.Not negated) = negated
@@ -21,10 +22,12 @@ lawful_here (level.Inter members) = are_lawful members
 unfoldable pub is_lawful : Expr → Bool
 is_lawful e = fold-Expr Bool lawful_here e
 
+-- the condition, where there is one, is lawful
 abbrev pub has_lawful_cond : Option Expr → Bool
 has_lawful_cond None = true
 has_lawful_cond (Some e) = is_lawful e
 
+-- the limit, where there is one, is 1 to 2500
 abbrev pub has_lawful_limit : Option ℕ → Bool
 has_lawful_limit None = true
 has_lawful_limit (Some n) = nat_le 1 n && nat_le n 2500

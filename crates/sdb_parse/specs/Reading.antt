@@ -8,6 +8,7 @@ use Rattle.sdb_parse.specs.declared.term.Term.{Term}
 use Rattle.sdb_base.specs.Names.{is_name}
 use Rattle.sdb_parse.specs.Signs.{may_name, same}
 
+-- the term is there and has that sign
 abbrev pub has_sign : Option Term → Sign → Bool
 has_sign None s = false
 has_sign (Some t) s = same t.sign s

@@ -25,6 +25,7 @@ inside (s ∷ rest) = single s false (take (length rest - 1) rest)
 unfoldable pub plain_term : List ℕ → Term
 plain_term piece = record { sign = sign_of piece; text = if may_name (sign_of piece) then piece else [] }
 
+-- the term for a piece of that kind
 abbrev pub term_for : Kind → List ℕ → Term
 term_for kind.Word piece = plain_term piece
 term_for kind.Symbol piece = plain_term piece
@@ -32,9 +33,11 @@ term_for kind.Ticked piece = record { sign = sign.Name; text = inside piece }
 term_for kind.Quoted piece = record { sign = sign.Quoted; text = inside piece }
 term_for kind.Digits piece = record { sign = sign.Digits; text = piece }
 
+-- the term of a token
 unfoldable pub term_of : List ℕ → Token → Term
 term_of text t = term_for t.kind (piece_of text t)
 
+-- the terms of all tokens
 abbrev pub terms_of : List ℕ → List Token → List Term
 terms_of text tokens = map (term_of text) tokens
 
@@ -46,6 +49,7 @@ pub record IsEnclosed (piece : List ℕ) : Type 0 where
   pub ascii : sign < 128
   pub utf8 : IsUtf8 inner
 
+-- quoted and ticked pieces stand between their signs
 abbrev pub MayEnclose : Kind → List ℕ → Type 0
 MayEnclose kind.Quoted piece = IsEnclosed piece
 MayEnclose kind.Ticked piece = IsEnclosed piece

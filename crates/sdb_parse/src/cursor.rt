@@ -1,3 +1,4 @@
+// The terms of an expression that are still to be read.
 ghost use Rattle.std.specs.Prelude.{◌≡◌, ◌-◌, ◌<◌, [], ◌∷◌, ◌++◌, drop, length, IsTrue, OnOk, MatchOption, is_none};
 ghost use Rattle.std.specs.Option.{option_copied};
 ghost use Rattle.sdb_parse.specs.Reading.{has_sign, nothing_left, sees, sees_call};

@@ -1,3 +1,4 @@
+// Conditions as trees.
 use crate::test::Test;
 use sdb_base::{Boxed, List, Text};
 

@@ -1,3 +1,4 @@
+// Why reading stopped.
 ghost use Rattle.std.specs.Prelude.{◌≡◌};
 ghost use Rattle.sdb_parse.specs.declared.fault.Fault.TheVariants.{OutOfMemory as out_of_memory};
 

@@ -1,3 +1,4 @@
+// Members of a condition, and what joins them.
 ghost use Rattle.std.specs.Prelude.{◌≡◌};
 ghost use Rattle.sdb_parse.specs.Conditions.{separator};
 

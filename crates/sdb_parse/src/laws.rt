@@ -1,3 +1,4 @@
+// Laws of the grammar, each the contract of a function.
 ghost use Rattle.sdb_parse.specs.Parsed.{OneAnswer, OneTree};
 
 /// A text has one answer: one tree, or one refusal.

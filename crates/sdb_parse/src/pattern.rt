@@ -1,3 +1,4 @@
+// Patterns of `like`.
 ghost use Rattle.std.specs.Prelude.{◌≡◌};
 
 use sdb_base::Text;

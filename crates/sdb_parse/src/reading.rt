@@ -1,3 +1,4 @@
+// An expression to its tree, or its first refusal.
 ghost use Rattle.std.specs.Prelude.{◌≡◌, ◌≢◌, Err, IfOk};
 ghost use Rattle.sdb_parse.specs.declared.select.Select.{Select as tree};
 ghost use Rattle.sdb_parse.specs.Lawful.{IsLawful};

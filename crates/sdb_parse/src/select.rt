@@ -1,3 +1,4 @@
+// A Select as a tree.
 use crate::expr::Expr;
 use sdb_base::{Text, Texts};
 

@@ -1,3 +1,4 @@
+// What a term is, by its text.
 ghost use Rattle.std.specs.Prelude.{◌≡◌, map};
 ghost use Rattle.sdb_parse.specs.Signs.{may_name, same_word, seen, sign_in, sign_of};
 

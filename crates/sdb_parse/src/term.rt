@@ -1,3 +1,4 @@
+// Terms: tokens with the texts that they stand for.
 use crate::sign::Sign;
 use sdb_base::Text;
 

@@ -1,3 +1,4 @@
+// Tests of a value.
 use crate::pattern::Pattern;
 use sdb_base::{Text, Texts};
 

@@ -1,3 +1,4 @@
+// Tests of whole expressions.
 use super::*;
 use sdb_base::Text;
 use sdb_tables::Refusal;

@@ -13,6 +13,7 @@ use Rattle.sdb_record.specs.Journals.{Group, IsClosed, HasGroups, JournalHas, la
 abbrev pub snap_of : ℕ → ℕ
 snap_of generation = generation % 2
 
+-- and its journal
 abbrev pub journal_of : ℕ → ℕ
 journal_of generation = 2 + generation % 2
 
@@ -45,6 +46,7 @@ reached g groups = state [] (g.changes ++ all_of groups)
 abbrev pub has_small_items : DomainEntries → Bool
 has_small_items accounts = list_all (λ items. list_all (λ pairs. nat_le (length pairs) 256) (values_of items)) (values_of accounts)
 
+-- the same as a proposition
 abbrev pub HasSmallItems : DomainEntries → Type 0
 HasSmallItems accounts = IsTrue (has_small_items accounts)
 
@@ -69,6 +71,7 @@ IsFine c (suc zero) = IsClosed 33 (c 1)
 IsFine c (suc (suc zero)) = IsClosed 26 (c 2) ⊎ ((groups : List Group) × HasGroups 0 0 groups (c 2))
 IsFine c (suc (suc (suc k))) = IsClosed 26 (c 3)
 
+-- no file breaks a rule
 abbrev pub AreFine : Files → Type 0
 AreFine c = (k : ℕ) → k < 4 → IsFine c k
 

@@ -1,3 +1,4 @@
+// Why bytes of changes are refused.
 ghost use Rattle.std.specs.Prelude.{◌≡◌};
 ghost use Rattle.sdb_format.specs.declared.fault.FormatFault.TheVariants.{Short as ends_early, Bad as is_wrong};
 ghost use Rattle.sdb_record.specs.declared.fault.RecordFault.TheVariants.{Short as short, Bad as bad, OutOfMemory as out_of_memory};

@@ -1,3 +1,4 @@
+// Laws of the bytes of changes, each the contract of a function.
 ghost use Rattle.sdb_record.specs.Laws.{ChangesAreAFormat, NoSpellingBeginsAnother, OneChangeIsAFormat};
 
 /// No bytes of lawful changes are a proper front of others'; so bytes are those of at most one list.

@@ -1,3 +1,4 @@
+// Laws of what the files of a store stand for, each the contract of a function.
 ghost use Rattle.sdb_record.specs.StandsLaws.{EmptyFilesStand, FineFilesStand, GroundStays, NoneIsBad, OneIsFirstBad, StandForOne};
 
 /// What a journal stands on stays, whatever is written to the journal itself.

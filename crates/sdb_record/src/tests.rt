@@ -1,3 +1,4 @@
+// Tests of bytes written out, of their fronts, and of changed bytes.
 use super::*;
 use sdb_base::{AccountId, Text};
 use sdb_pairs::{Change, Changes, Op, Ops};

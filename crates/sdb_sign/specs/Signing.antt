@@ -22,18 +22,23 @@ Verdict = Result ℕ Refusal
 
 -- ---- what a request says of its signature
 
+-- the names of the parameters of a signature
 unfoldable pub key_id_name : List ℕ
 key_id_name = codes "AWSAccessKeyId"
 
+-- of its version
 unfoldable pub version_name : List ℕ
 version_name = codes "SignatureVersion"
 
+-- of its method
 unfoldable pub method_name : List ℕ
 method_name = codes "SignatureMethod"
 
+-- of the moment at which it was made
 unfoldable pub timestamp_name : List ℕ
 timestamp_name = codes "Timestamp"
 
+-- of the moment until which it holds
 unfoldable pub expires_name : List ℕ
 expires_name = codes "Expires"
 

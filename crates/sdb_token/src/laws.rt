@@ -1,3 +1,4 @@
+// Laws of page tokens, each the contract of a function.
 ghost use Rattle.sdb_token.specs.Laws.{OneDigestAndPosition, OnlyTokensAreRead, TokensAreRead};
 
 /// A text is the token of one digest and one position at most.

@@ -1,3 +1,4 @@
+// A position in the order of names or of a sort attribute.
 use sdb_base::Text;
 
 /// A position among names or items: the next page begins with the first that stands after it.

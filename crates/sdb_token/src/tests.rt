@@ -1,3 +1,4 @@
+// Tests of tokens, made elsewhere and refused.
 ghost use Rattle.std.specs.Prelude.{◌≤◌, length};
 ghost use Rattle.std.specs.Option.{ForSome};
 

@@ -21,6 +21,7 @@ abbrev pub part_with : List ℕ → Option (List ℕ) → Part
 part_with name None = whole_name name
 part_with name (Some value) = one_pair (record { name = name; value = value })
 
+-- a part of a deletion
 abbrev pub part_of : DropPart → Part
 part_of part = part_with part.name part.value
 
@@ -29,12 +30,15 @@ pub data ItemWrite : Type 0 where
   put_into : (name : List ℕ) (puts : List Put) → ItemWrite
   delete_from : (name : List ℕ) (parts : List Part) → ItemWrite
 
+-- the write of a put
 abbrev pub put_write : PutItem → ItemWrite
 put_write item = put_into item.name (map put_of item.pairs)
 
+-- the write of a deletion
 abbrev pub drop_write : DropItem → ItemWrite
 drop_write item = delete_from item.name (map part_of item.parts)
 
+-- the item that is written
 abbrev pub name_of : ItemWrite → List ℕ
 name_of (put_into name puts) = name
 name_of (delete_from name parts) = name

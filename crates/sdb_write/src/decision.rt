@@ -1,3 +1,4 @@
+// What a write does, or why it is refused.
 ghost use Rattle.std.specs.Prelude.{◌≡◌, [], ◌∷◌, Some, IfOk, IfErr};
 ghost use Rattle.std.specs.Option.{option_copied};
 ghost use Rattle.sdb_tables.specs.Answers.{Answers};

@@ -1,3 +1,4 @@
+// What a conditional write expects, judged over an item.
 ghost use Rattle.std.specs.Prelude.{◌≡◌, ◌+◌, ◌≤◌, map, MatchResult, Some, None};
 ghost use Rattle.std.specs.Option.{option_copied};
 ghost use Rattle.sdb_pairs.specs.Accounts.{pairs_at};

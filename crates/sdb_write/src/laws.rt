@@ -1,3 +1,4 @@
+// Laws of writes, each the contract of a function.
 ghost use Rattle.sdb_write.specs.Laws.{WritesAreChanges, WritesKeepAccountsRising};
 
 /// Where a write gives accounts, a batch too, applying its changes gives those accounts.

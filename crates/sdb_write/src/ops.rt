@@ -1,3 +1,4 @@
+// The operations of puts and deletions.
 ghost use Rattle.std.specs.Prelude.{◌≡◌, ◌++◌, [], map, IfOk, OnOk};
 ghost use Rattle.sdb_pairs.specs.Laws.{del_ops, part_op};
 ghost use Rattle.sdb_pairs.specs.declared.op.Op.TheVariants.{AddPair, DropName};

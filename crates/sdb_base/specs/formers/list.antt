@@ -1,1 +1,2 @@
+-- Lists as formers.
 pub mod List

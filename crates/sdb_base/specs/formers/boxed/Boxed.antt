@@ -26,6 +26,7 @@ use Rattle.sdb_base.specs.contracts.boxed.Boxed.TheInside as inside
 abbrev pub the_former : Former {0} → Former {0}
 the_former value = value
 
+-- a box weighs what its value weighs
 abbrev pub the_weighed : {value : Former {0}} → Weighed value → Weighed (the_former value)
 the_weighed weight = weight
 
@@ -38,6 +39,7 @@ stored = via (pair (const (Ptr × Global)) this) Inside (λ X it. ((it.inner.ptr
 abbrev holding : {X Y : Type 0} → Box X Global → Y → Box Y Global
 holding b y = record { ptr = b.ptr; alloc = b.alloc; value = y }
 
+-- what is known of a type in a box
 abbrev box_row : RattleType → RattleType
 box_row R = box.the_row R heap.the_row ghosts
 

@@ -23,15 +23,19 @@ use Rattle.sdb_base.specs.contracts.list.List.TheInside as inside
 abbrev pub the_former : Former {0} → Former {0}
 the_former member = list member
 
+-- a list weighs what its members weigh
 abbrev pub the_weighed : {member : Former {0}} → Weighed member → Weighed (the_former member)
 the_weighed weight = w_list weight
 
+-- a list of what has no members is empty
 pub the_empty : Members ⊥
 the_empty = []
 
+-- the members of a list
 abbrev pub the_items : (X : Type 0) → Members X → Members X
 the_items X members = members
 
+-- and these are all of them
 pub the_items_listed : (X : Type 0) (members : Members X) → listed _ (children (the_former this) X members) ≡ the_items X members
 the_items_listed X members = list-listed X members
 
