@@ -7,7 +7,7 @@ use Rattle.sdb_disk.specs.Disk.{Files, State, Image, LeavesOnly}
 use Rattle.sdb_disk.specs.MemoryLaws.{if_true, if_false}
 use Rattle.sdb_disk.proofs.CallLemmas.{LeavesOnly-weaker}
 use Rattle.sdb_pairs.specs.declared.change.Change.{Change}
-use Rattle.sdb_pairs.specs.Changes.{after, state}
+use Rattle.sdb_pairs.specs.Changes.{after_change, state}
 use Rattle.sdb_record.specs.Journals.{Group, next, last, Stands, IsGroup, Spell, HasGroups}
 use Rattle.sdb_record.specs.Stands.{Ground, HasGround, HasSmallItems, SameBut, StandsFor, reached, all_of, journal_of}
 use Rattle.sdb_record.proofs.StandsLemmas.{ground_stays}
@@ -18,7 +18,7 @@ use Rattle.sdb_journal.specs.Rests.{StandsWith, RestsAt, base_of}
 -- ---- one group more
 reached_more : (g : Ground) (groups : List Group) (group : Group) → reached g (groups ++ group ∷ []) ≡ state (reached g groups) group
 reached_more g groups group =
-    ap (λ changes. state [] changes) (sym (flat_map_more (λ x. x) g.changes groups group)) ∙ fold-append after [] (g.changes ++ all_of groups) group
+    ap (λ changes. state [] changes) (sym (flat_map_more (λ x. x) g.changes groups group)) ∙ fold-append after_change [] (g.changes ++ all_of groups) group
 
 last_more : (n : ℕ) (groups : List Group) (group : Group) → last n (groups ++ group ∷ []) ≡ next (last n groups)
 last_more n [] group = refl
