@@ -1,0 +1,6 @@
+pub mod Bodies
+pub mod Digits
+pub mod Elements
+pub mod Escape
+pub mod Pieces
+pub mod Results

@@ -1,0 +1,94 @@
+-- The results of the actions that read.
+use Rattle.std.specs.Prelude.{ℕ, List, [], ◌∷◌, ◌++◌, Option, Some, None, codes, decimal}
+use Rattle.std.specs.List.{flat_map}
+use Rattle.sdb_pairs.specs.declared.pair.Pair.{Pair}
+use Rattle.sdb_pairs.specs.Listing.{ShownItem}
+use Rattle.sdb_domain.specs.declared.metadata.Metadata.{Metadata}
+use Rattle.sdb_reply.specs.Elements.{element, group}
+
+unfoldable pub domain_name : List ℕ
+domain_name = codes "DomainName"
+
+unfoldable pub next_token : List ℕ
+next_token = codes "NextToken"
+
+unfoldable pub item_name : List ℕ
+item_name = codes "Item"
+
+unfoldable pub attribute_name : List ℕ
+attribute_name = codes "Attribute"
+
+unfoldable pub name_name : List ℕ
+name_name = codes "Name"
+
+unfoldable pub value_name : List ℕ
+value_name = codes "Value"
+
+unfoldable pub domain_word : List ℕ
+domain_word = codes "Domain"
+
+unfoldable pub count_word : List ℕ
+count_word = codes "Count"
+
+unfoldable pub item_count : List ℕ
+item_count = codes "ItemCount"
+
+unfoldable pub item_names_size : List ℕ
+item_names_size = codes "ItemNamesSizeBytes"
+
+unfoldable pub attribute_name_count : List ℕ
+attribute_name_count = codes "AttributeNameCount"
+
+unfoldable pub attribute_names_size : List ℕ
+attribute_names_size = codes "AttributeNamesSizeBytes"
+
+unfoldable pub attribute_value_count : List ℕ
+attribute_value_count = codes "AttributeValueCount"
+
+unfoldable pub attribute_values_size : List ℕ
+attribute_values_size = codes "AttributeValuesSizeBytes"
+
+unfoldable pub timestamp : List ℕ
+timestamp = codes "Timestamp"
+
+-- a pair of an item
+abbrev pub attribute : Pair → List ℕ
+attribute pair = group attribute_name (element name_name pair.name ++ element value_name pair.value)
+
+-- pairs, in their order
+abbrev pub attributes : List Pair → List ℕ
+attributes pairs = flat_map attribute pairs
+
+-- an item with its pairs
+abbrev pub item : ShownItem → List ℕ
+item shown = group item_name (element name_name shown.name ++ attributes shown.pairs)
+
+-- the token, where something is left
+abbrev pub token : Option (List ℕ) → List ℕ
+token None = []
+token (Some text) = element next_token text
+
+-- names of domains
+abbrev pub domains : List (List ℕ) → Option (List ℕ) → List ℕ
+domains names next = flat_map (element domain_name) names ++ token next
+
+-- a page of items
+abbrev pub items : List ShownItem → Option (List ℕ) → List ℕ
+items shown next = flat_map item shown ++ token next
+
+-- a count: the item `Domain` with the attribute `Count`
+abbrev pub count : ℕ → Option (List ℕ) → List ℕ
+count number next =
+    group item_name (group name_name domain_word ++ group attribute_name (group name_name count_word ++ group value_name (decimal number)))
+    ++ token next
+
+-- an element that holds a number
+abbrev pub number : List ℕ → ℕ → List ℕ
+number name value = group name (decimal value)
+
+-- the numbers of a domain, and the moment at which they were taken
+abbrev pub metadata : Metadata → ℕ → List ℕ
+metadata m moment =
+    number item_count m.items ++ number item_names_size m.item_bytes ++ number attribute_name_count m.names
+    ++ number attribute_names_size m.name_bytes ++ number attribute_value_count m.pairs
+    ++ number attribute_values_size m.value_bytes ++ number timestamp moment
