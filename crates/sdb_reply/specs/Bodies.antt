@@ -1,54 +1,52 @@
 -- The body that answers a request (SimpleDB Developer Guide, "API Reference").
-use Rattle.std.specs.Prelude.{ℕ, List, [], ◌∷◌, ◌++◌, ◌/◌, ◌^◌, Bool, codes, decimal}
+use Rattle.std.specs.Prelude.{ℕ, List, [], ◌∷◌, ◌++◌, ◌/◌, ◌^◌, codes, decimal}
 use Rattle.sdb_tables.specs.declared.refusal.Refusal.{Refusal}
 use Rattle.sdb_tables.specs.Faults.{fault_of}
 use Rattle.sdb_action.specs.declared.action.Action.{Action}
 use Rattle.sdb_action.specs.declared.action.Action.TheVariants.{ListDomains, DomainMetadata, GetAttributes, Select}
 use Rattle.sdb_action.specs.Actions.{action_text}
-use Rattle.sdb_http.specs.Responses.{response_text}
 use Rattle.sdb_reply.specs.declared.outcome.Outcome.{Outcome}
 use Rattle.sdb_reply.specs.declared.outcome.Outcome.TheVariants.{Done, Domains, Metadata, Pairs, Items, Count, Refused}
 use Rattle.sdb_reply.specs.declared.outcome.RequestId.{RequestId}
 use Rattle.sdb_reply.specs.Digits.{padded}
-use Rattle.sdb_reply.specs.Elements.{group, end_tag}
+use Rattle.sdb_reply.specs.Elements.{group}
 use Rattle.sdb_reply.specs.Results.{domains, metadata, attributes, items, count}
 
-unfoldable pub declaration : List ℕ
-declaration = codes "<?xml version=\"1.0\"?>\n"
+unfoldable pub head : List ℕ
+head = codes "<?xml version=\"1.0\"?>\n<"
 
-unfoldable pub response_word : List ℕ
-response_word = codes "Response"
+unfoldable pub opened : List ℕ
+opened = codes "Response xmlns=\"http://sdb.amazonaws.com/doc/2009-04-15/\">"
+
+unfoldable pub before_id : List ℕ
+before_id = codes "<ResponseMetadata><RequestId>"
+
+unfoldable pub before_usage : List ℕ
+before_usage = codes "</RequestId><BoxUsage>"
+
+unfoldable pub after_usage : List ℕ
+after_usage = codes "</BoxUsage></ResponseMetadata></"
+
+unfoldable pub closed : List ℕ
+closed = codes "Response>"
+
+unfoldable pub before_code : List ℕ
+before_code = codes "<?xml version=\"1.0\"?>\n<Response><Errors><Error><Code>"
+
+unfoldable pub before_message : List ℕ
+before_message = codes "</Code><Message>"
+
+unfoldable pub after_message : List ℕ
+after_message = codes "</Message><BoxUsage>"
+
+unfoldable pub before_refused_id : List ℕ
+before_refused_id = codes "</BoxUsage></Error></Errors><RequestID>"
+
+unfoldable pub after_refused_id : List ℕ
+after_refused_id = codes "</RequestID></Response>"
 
 unfoldable pub result_word : List ℕ
 result_word = codes "Result"
-
-unfoldable pub namespace : List ℕ
-namespace = codes " xmlns=\"http://sdb.amazonaws.com/doc/2009-04-15/\""
-
-unfoldable pub response_metadata : List ℕ
-response_metadata = codes "ResponseMetadata"
-
-unfoldable pub request_id : List ℕ
-request_id = codes "RequestId"
-
-unfoldable pub box_usage : List ℕ
-box_usage = codes "BoxUsage"
-
-unfoldable pub errors_name : List ℕ
-errors_name = codes "Errors"
-
-unfoldable pub error_name : List ℕ
-error_name = codes "Error"
-
-unfoldable pub code_name : List ℕ
-code_name = codes "Code"
-
-unfoldable pub message_name : List ℕ
-message_name = codes "Message"
-
--- in refusals the element of the id is spelled so
-unfoldable pub refused_id : List ℕ
-refused_id = codes "RequestID"
 
 -- what stands between the numbers of an id
 unfoldable pub between : List ℕ
@@ -62,8 +60,13 @@ id_text id = padded 16 8 id.conn ++ between ++ padded 16 12 id.number
 abbrev pub hours_text : ℕ → List ℕ
 hours_text units = decimal (units / 10 ^ 10) ++ 46 ∷ padded 10 10 units
 
-abbrev pub usage : ℕ → List ℕ
-usage units = group box_usage (hours_text units)
+-- what stands before the result of an action
+abbrev pub opening : Action → List ℕ
+opening action = head ++ action_text action ++ opened
+
+-- what stands after it: the id, and the units that were used
+abbrev pub ending : Action → RequestId → ℕ → List ℕ
+ending action id units = before_id ++ id_text id ++ before_usage ++ hours_text units ++ after_usage ++ action_text action ++ closed
 
 -- the result of an action
 abbrev pub result : (action : Action) (inside : List ℕ) → List ℕ
@@ -71,20 +74,13 @@ result action inside = group (action_text action ++ result_word) inside
 
 -- the body of a request that was done: the result where there is one, the id, and the units that it used
 abbrev pub success : (action : Action) (inside : List ℕ) (id : RequestId) (units : ℕ) → List ℕ
-success action inside id units =
-    declaration ++ 60 ∷ (action_text action ++ response_word ++ namespace ++ 62 ∷ (inside
-    ++ group response_metadata (group request_id (id_text id) ++ usage units)
-    ++ end_tag (action_text action ++ response_word)))
+success action inside id units = opening action ++ (inside ++ ending action id units)
 
 -- the body of a refused request: the code and the message of its row, the units that it used, and the id
 abbrev pub refused : (refusal : Refusal) (id : RequestId) (units : ℕ) → List ℕ
 refused refusal id units =
-    declaration
-    ++ group response_word
-        (group errors_name
-            (group error_name
-                (group code_name (fault_of refusal).code ++ group message_name (fault_of refusal).message ++ usage units))
-        ++ group refused_id (id_text id))
+    before_code ++ (fault_of refusal).code ++ before_message ++ (fault_of refusal).message ++ after_message ++ hours_text units
+    ++ before_refused_id ++ id_text id ++ after_refused_id
 
 -- the body of an outcome
 unfoldable pub body_text : Outcome → RequestId → ℕ → List ℕ
@@ -100,11 +96,3 @@ body_text (Refused refusal) id units = refused refusal id units
 abbrev pub status_of : Outcome → ℕ
 status_of (Refused refusal) = (fault_of refusal).status
 status_of _ = 200
-
--- the units of a refused request
-abbrev pub refusal_units : ℕ
-refusal_units = 1000
-
--- the whole response to a refused request
-abbrev pub fault_text : Refusal → RequestId → Bool → List ℕ
-fault_text refusal id close = response_text (fault_of refusal).status (body_text (Refused refusal) id refusal_units) close

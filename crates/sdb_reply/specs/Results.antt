@@ -24,11 +24,11 @@ name_name = codes "Name"
 unfoldable pub value_name : List ℕ
 value_name = codes "Value"
 
-unfoldable pub domain_word : List ℕ
-domain_word = codes "Domain"
+unfoldable pub before_count : List ℕ
+before_count = codes "<Item><Name>Domain</Name><Attribute><Name>Count</Name><Value>"
 
-unfoldable pub count_word : List ℕ
-count_word = codes "Count"
+unfoldable pub after_count : List ℕ
+after_count = codes "</Value></Attribute></Item>"
 
 unfoldable pub item_count : List ℕ
 item_count = codes "ItemCount"
@@ -78,9 +78,7 @@ items shown next = flat_map item shown ++ token next
 
 -- a count: the item `Domain` with the attribute `Count`
 abbrev pub count : ℕ → Option (List ℕ) → List ℕ
-count number next =
-    group item_name (group name_name domain_word ++ group attribute_name (group name_name count_word ++ group value_name (decimal number)))
-    ++ token next
+count number next = before_count ++ decimal number ++ after_count ++ token next
 
 -- an element that holds a number
 abbrev pub number : List ℕ → ℕ → List ℕ

@@ -26,6 +26,7 @@ pub fn body<'a>(
     Ok(out)
 }
 
+#[tactic(auto, using(std::proofs::Common::append_assoc), unfolding(crate::specs::Bodies::body_text))]
 fn append_body<'a>(
     alloc: Global,
     out: &mut Bytes,
@@ -38,33 +39,34 @@ fn append_body<'a>(
     match outcome {
         Outcome::Done(action) => {
             append_opening(out, *action)?;
-            append_ending(out, *action, id, units)
+            append_ending(out, *action, id, units)?;
         }
         Outcome::Domains(names, token) => {
             append_start(out, Action::ListDomains)?;
             append_domains(alloc, out, names.as_slice(), token)?;
-            append_end(out, Action::ListDomains, id, units)
+            append_end(out, Action::ListDomains, id, units)?;
         }
         Outcome::Metadata(numbers, moment) => {
             append_start(out, Action::DomainMetadata)?;
             append_metadata(out, numbers, *moment)?;
-            append_end(out, Action::DomainMetadata, id, units)
+            append_end(out, Action::DomainMetadata, id, units)?;
         }
         Outcome::Pairs(pairs) => {
             append_start(out, Action::GetAttributes)?;
             append_attributes(alloc, out, pairs.as_slice())?;
-            append_end(out, Action::GetAttributes, id, units)
+            append_end(out, Action::GetAttributes, id, units)?;
         }
         Outcome::Items(shown, token) => {
             append_start(out, Action::Select)?;
             append_items(alloc, out, shown.as_slice(), token)?;
-            append_end(out, Action::Select, id, units)
+            append_end(out, Action::Select, id, units)?;
         }
         Outcome::Count(number, token) => {
             append_start(out, Action::Select)?;
             append_count(alloc, out, *number, token)?;
-            append_end(out, Action::Select, id, units)
+            append_end(out, Action::Select, id, units)?;
         }
-        Outcome::Refused(refusal) => append_refused(out, refusal, id, units),
+        Outcome::Refused(refusal) => append_refused(out, refusal, id, units)?,
     }
+    Ok(())
 }

@@ -4,7 +4,6 @@
 mod bodies;
 mod digits;
 mod escape;
-mod fault;
 mod outcome;
 mod parts;
 mod pieces;
@@ -13,7 +12,6 @@ mod results;
 mod words;
 
 pub use bodies::body;
-pub use fault::{fault_into, refusal_into, room};
 pub use outcome::{Outcome, RequestId};
 pub use parts::append_hours;
 

@@ -1,9 +1,8 @@
 // The parts that bodies share.
-ghost use Rattle.std.specs.Prelude.{◌≡◌, ◌+◌, ◌≤◌, ◌++◌, length, IsOk, OnOk};
-ghost use Rattle.sdb_reply.specs.Bodies.{hours_text, refused, result_word};
+ghost use Rattle.std.specs.Prelude.{◌≡◌, ◌++◌, OnOk};
+ghost use Rattle.sdb_reply.specs.Bodies.{ending, hours_text, id_text, opening, refused, result_word};
 ghost use Rattle.sdb_reply.specs.Digits.{padded};
 ghost use Rattle.sdb_reply.specs.Elements.{end_tag, start_tag};
-ghost use Rattle.sdb_reply.specs.Pieces.{ending, opening};
 ghost use Rattle.sdb_action.specs.Actions.{action_text};
 
 use crate::digits::write_padded;
@@ -69,25 +68,19 @@ pub(crate) fn append_ending(
 ) -> Result<(), OutOfMemory>
     ensures { OnOk result (out.new.bytes ≡ out.old.bytes ++ ending action id.now units) }
 {
-    let id = id_digits(id);
-    let mut whole = Buffer::new();
-    let parts = hour_parts(units);
+    out.append(words::before_id())?;
+    append_id(out, id)?;
+    out.append(words::before_usage())?;
+    append_hours(out, units)?;
     append_all(
         out,
         &[
-            words::before_id(),
-            &id.conn,
-            words::between(),
-            &id.number,
-            words::before_usage(),
-            whole.format(units / UNITS_AN_HOUR).as_bytes(),
-            b".",
-            &parts,
             words::after_usage(),
             action.name().as_bytes(),
             words::closed(),
         ],
-    )
+    )?;
+    Ok(())
 }
 
 // Appends the body of a refused request.
@@ -98,31 +91,27 @@ pub(crate) fn append_refused(
     id: &RequestId,
     units: u64,
 ) -> Result<(), OutOfMemory>
-    ensures ok { OnOk result (out.new.bytes ≡ out.old.bytes ++ refused refusal.now id.now units) }
-    ensures room { length (refused refusal.now id.now units) ≤ out.old.spare → IsOk result }
+    ensures { OnOk result (out.new.bytes ≡ out.old.bytes ++ refused refusal.now id.now units) }
 {
     let row = fault_row(refusal);
-    let id = id_digits(id);
-    let mut whole = Buffer::new();
-    let parts = hour_parts(units);
-    append_all(
-        out,
-        &[
-            words::before_code(),
-            row.code.as_bytes(),
-            words::before_message(),
-            row.message.as_bytes(),
-            words::after_message(),
-            whole.format(units / UNITS_AN_HOUR).as_bytes(),
-            b".",
-            &parts,
-            words::before_refused_id(),
-            &id.conn,
-            words::between(),
-            &id.number,
-            words::after_refused_id(),
-        ],
-    )
+    out.append(words::before_code())?;
+    out.append(row.code.as_bytes())?;
+    out.append(words::before_message())?;
+    out.append(row.message.as_bytes())?;
+    out.append(words::after_message())?;
+    append_hours(out, units)?;
+    out.append(words::before_refused_id())?;
+    append_id(out, id)?;
+    out.append(words::after_refused_id())?;
+    Ok(())
+}
+
+#[tactic(auto, using(std::proofs::Common::append_assoc))]
+fn append_id(out: &mut Bytes, id: &RequestId) -> Result<(), OutOfMemory>
+    ensures { OnOk result (out.new.bytes ≡ out.old.bytes ++ id_text id.now) }
+{
+    let digits = id_digits(id);
+    append_all(out, &[&digits.conn, words::between(), &digits.number])
 }
 
 fn id_digits(id: &RequestId) -> IdDigits

@@ -38,11 +38,10 @@ fn append_names(alloc: Global, out: &mut Bytes, names: &[Text]) -> Result<(), Ou
     Ok(())
 }
 
-#[tactic(auto, unfolding(crate::specs::Results::domain_name))]
 fn append_name(alloc: Global, out: &mut Bytes, name: &Text) -> Result<(), OutOfMemory>
     ensures { OnOk result (out.new.bytes ≡ out.old.bytes ++ element domain_name name.now) }
 {
-    append_element(alloc, out, "DomainName", name.as_str())?;
+    append_element(alloc, out, words::domain_name(), name.as_str())?;
     Ok(())
 }
 

@@ -2,7 +2,7 @@
 
 use super::*;
 use sdb_action::Action;
-use sdb_base::{Bytes, Text, Texts};
+use sdb_base::{Text, Texts};
 use sdb_domain::Metadata;
 use sdb_http::response;
 use sdb_pairs::{ItemOut, ItemsOut, Pair, Pairs};
@@ -26,8 +26,6 @@ const ITEMS: &str = "<?xml version=\"1.0\"?>\n<SelectResponse xmlns=\"http://sdb
 const COUNT: &str = "<?xml version=\"1.0\"?>\n<SelectResponse xmlns=\"http://sdb.amazonaws.com/doc/2009-04-15/\"><SelectResult><Item><Name>Domain</Name><Attribute><Name>Count</Name><Value>4</Value></Attribute></Item></SelectResult><ResponseMetadata><RequestId>00000001-0000-0000-0000-000000000006</RequestId><BoxUsage>1844674407.3709551615</BoxUsage></ResponseMetadata></SelectResponse>";
 
 const REFUSED: &str = "<?xml version=\"1.0\"?>\n<Response><Errors><Error><Code>NoSuchDomain</Code><Message>The specified domain does not exist.</Message><BoxUsage>0.0000001000</BoxUsage></Error></Errors><RequestID>00000001-0000-0000-0000-000000000007</RequestID></Response>";
-
-const FAULT: &str = "HTTP/1.1 414 URI Too Long\r\nContent-Type: text/xml\r\nContent-Length: 238\r\nConnection: close\r\n\r\n<?xml version=\"1.0\"?>\n<Response><Errors><Error><Code>URITooLong</Code><Message>The request head is too long.</Message><BoxUsage>0.0000001000</BoxUsage></Error></Errors><RequestID>00000001-0000-0000-0000-000000000001</RequestID></Response>";
 
 const RESPONSE_HEAD: &str = "HTTP/1.1 200 OK\r\nContent-Type: text/xml\r\nContent-Length: 245\r\n\r\n";
 
@@ -135,17 +133,10 @@ fn a_count_is_the_item_domain(rt: HostRuntime) -> Result<(), Fail> {
 }
 
 #[test]
-fn refusals_are_told_without_memory(rt: HostRuntime) -> Result<(), Fail> {
+fn a_refusal_has_its_row(rt: HostRuntime) -> Result<(), Fail> {
     let alloc = rt.alloc();
     let outcome = Outcome::Refused(Refusal::NoSuchDomain);
     expect(&rt, alloc, &outcome, (1, 7, 1_000), REFUSED)?;
-    let mut out = Bytes::with_room(alloc, room())?;
-    refusal_into(&mut out, &Refusal::NoSuchDomain, &RequestId { conn: 1, number: 7 });
-    assert_eq!(rt; out.as_slice(), REFUSED.as_bytes());
-    let mut out = Bytes::with_room(alloc, room())?;
-    let id = RequestId { conn: 1, number: 1 };
-    fault_into(&mut out, &Refusal::URITooLong, &id, true);
-    assert_eq!(rt; out.as_slice(), FAULT.as_bytes());
     assert_eq!(rt; outcome.status(), 400);
     Ok(())
 }

@@ -1,84 +1,82 @@
 // The constant texts of bodies.
 ghost use Rattle.std.specs.Prelude.{◌≡◌};
-ghost use Rattle.sdb_http.specs.Responses as responses;
 ghost use Rattle.sdb_reply.specs.Bodies as bodies;
 ghost use Rattle.sdb_reply.specs.Escape as escape;
-ghost use Rattle.sdb_reply.specs.Pieces as pieces;
 ghost use Rattle.sdb_reply.specs.Results as results;
 
-#[tactic(auto, unfolding(crate::specs::Pieces::head))]
+#[tactic(auto, unfolding(crate::specs::Bodies::head))]
 pub(crate) fn head() -> &'static [u8]
-    ensures { result.now ≡ pieces.head }
+    ensures { result.now ≡ bodies.head }
 {
     b"<?xml version=\"1.0\"?>\n<"
 }
 
-#[tactic(auto, unfolding(crate::specs::Pieces::opened))]
+#[tactic(auto, unfolding(crate::specs::Bodies::opened))]
 pub(crate) fn opened() -> &'static [u8]
-    ensures { result.now ≡ pieces.opened }
+    ensures { result.now ≡ bodies.opened }
 {
     b"Response xmlns=\"http://sdb.amazonaws.com/doc/2009-04-15/\">"
 }
 
-#[tactic(auto, unfolding(crate::specs::Pieces::before_id))]
+#[tactic(auto, unfolding(crate::specs::Bodies::before_id))]
 pub(crate) fn before_id() -> &'static [u8]
-    ensures { result.now ≡ pieces.before_id }
+    ensures { result.now ≡ bodies.before_id }
 {
     b"<ResponseMetadata><RequestId>"
 }
 
-#[tactic(auto, unfolding(crate::specs::Pieces::before_usage))]
+#[tactic(auto, unfolding(crate::specs::Bodies::before_usage))]
 pub(crate) fn before_usage() -> &'static [u8]
-    ensures { result.now ≡ pieces.before_usage }
+    ensures { result.now ≡ bodies.before_usage }
 {
     b"</RequestId><BoxUsage>"
 }
 
-#[tactic(auto, unfolding(crate::specs::Pieces::after_usage))]
+#[tactic(auto, unfolding(crate::specs::Bodies::after_usage))]
 pub(crate) fn after_usage() -> &'static [u8]
-    ensures { result.now ≡ pieces.after_usage }
+    ensures { result.now ≡ bodies.after_usage }
 {
     b"</BoxUsage></ResponseMetadata></"
 }
 
-#[tactic(auto, unfolding(crate::specs::Pieces::closed))]
+#[tactic(auto, unfolding(crate::specs::Bodies::closed))]
 pub(crate) fn closed() -> &'static [u8]
-    ensures { result.now ≡ pieces.closed }
+    ensures { result.now ≡ bodies.closed }
 {
     b"Response>"
 }
 
-#[tactic(auto, unfolding(crate::specs::Pieces::before_code))]
+#[tactic(auto, unfolding(crate::specs::Bodies::before_code))]
 pub(crate) fn before_code() -> &'static [u8]
-    ensures { result.now ≡ pieces.before_code }
+    ensures { result.now ≡ bodies.before_code }
 {
     b"<?xml version=\"1.0\"?>\n<Response><Errors><Error><Code>"
 }
 
-#[tactic(auto, unfolding(crate::specs::Pieces::before_message))]
+#[tactic(auto, unfolding(crate::specs::Bodies::before_message))]
 pub(crate) fn before_message() -> &'static [u8]
-    ensures { result.now ≡ pieces.before_message }
+    ensures { result.now ≡ bodies.before_message }
 {
     b"</Code><Message>"
 }
 
-#[tactic(auto, unfolding(crate::specs::Pieces::after_message))]
+#[tactic(auto, unfolding(crate::specs::Bodies::after_message))]
 pub(crate) fn after_message() -> &'static [u8]
-    ensures { result.now ≡ pieces.after_message }
+    ensures { result.now ≡ bodies.after_message }
 {
     b"</Message><BoxUsage>"
 }
 
-#[tactic(auto, unfolding(crate::specs::Pieces::before_refused_id))]
+#[tactic(auto, unfolding(crate::specs::Bodies::before_refused_id))]
 pub(crate) fn before_refused_id() -> &'static [u8]
-    ensures { result.now ≡ pieces.before_refused_id }
+    ensures { result.now ≡ bodies.before_refused_id }
 {
     b"</BoxUsage></Error></Errors><RequestID>"
 }
 
-#[tactic(auto, unfolding(crate::specs::Pieces::after_refused_id))]
+#[tactic(auto, unfolding(crate::specs::Bodies::after_refused_id))]
 pub(crate) fn after_refused_id() -> &'static [u8]
-    ensures { result.now ≡ pieces.after_refused_id }
+    ensures { result.now ≡ bodies.after_refused_id }
 {
     b"</RequestID></Response>"
 }
@@ -174,51 +172,23 @@ pub(crate) fn timestamp() -> &'static [u8]
     b"Timestamp"
 }
 
-#[tactic(auto, unfolding(crate::specs::Pieces::before_count))]
+#[tactic(auto, unfolding(crate::specs::Results::before_count))]
 pub(crate) fn before_count() -> &'static [u8]
-    ensures { result.now ≡ pieces.before_count }
+    ensures { result.now ≡ results.before_count }
 {
     b"<Item><Name>Domain</Name><Attribute><Name>Count</Name><Value>"
 }
 
-#[tactic(auto, unfolding(crate::specs::Pieces::after_count))]
+#[tactic(auto, unfolding(crate::specs::Results::after_count))]
 pub(crate) fn after_count() -> &'static [u8]
-    ensures { result.now ≡ pieces.after_count }
+    ensures { result.now ≡ results.after_count }
 {
     b"</Value></Attribute></Item>"
 }
 
-#[tactic(auto, unfolding(sdb_http::specs::Responses::version_word))]
-pub(crate) fn version_word() -> &'static [u8]
-    ensures { result.now ≡ responses.version_word }
+#[tactic(auto, unfolding(crate::specs::Results::domain_name))]
+pub(crate) fn domain_name() -> &'static str
+    ensures { result.now ≡ results.domain_name }
 {
-    b"HTTP/1.1 "
-}
-
-#[tactic(auto, unfolding(sdb_http::specs::Responses::space_word))]
-pub(crate) fn space_word() -> &'static [u8]
-    ensures { result.now ≡ responses.space_word }
-{
-    b" "
-}
-
-#[tactic(auto, unfolding(sdb_http::specs::Responses::type_lines))]
-pub(crate) fn type_lines() -> &'static [u8]
-    ensures { result.now ≡ responses.type_lines }
-{
-    b"\r\nContent-Type: text/xml\r\nContent-Length: "
-}
-
-#[tactic(auto, unfolding(sdb_http::specs::Responses::close_line))]
-pub(crate) fn close_line() -> &'static [u8]
-    ensures { result.now ≡ responses.close_line }
-{
-    b"\r\nConnection: close"
-}
-
-#[tactic(auto, unfolding(sdb_http::specs::Responses::head_end))]
-pub(crate) fn head_end() -> &'static [u8]
-    ensures { result.now ≡ responses.head_end }
-{
-    b"\r\n\r\n"
+    "DomainName"
 }
