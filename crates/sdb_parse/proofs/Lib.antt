@@ -5,9 +5,11 @@ mod ConditionSound
 mod CursorLemmas
 mod JudgedLemmas
 mod LawfulLemmas
+mod LetterLemmas
 mod LineComplete
 mod LineSound
 mod ListedLemmas
+mod PatternLemmas
 mod PieceLemmas
 mod PredicateComplete
 mod PredicateSound
