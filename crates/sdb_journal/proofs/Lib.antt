@@ -1,1 +1,3 @@
 pub mod AppendLemmas
+mod CreateLemmas
+mod RestLemmas

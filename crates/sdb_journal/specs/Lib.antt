@@ -1,2 +1,4 @@
 pub mod Appends
+pub mod Creates
 pub mod Places
+pub mod Rests

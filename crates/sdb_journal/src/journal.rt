@@ -1,11 +1,18 @@
-ghost use Rattle.std.specs.Prelude.{◌≡◌, ◌<◌, ◌≤◌, ◌+◌, ◌^◌, ℕ, List, [], ◌∷◌, ◌++◌, length, IsTrue, OnOk, OnErr};
+ghost use Rattle.std.specs.Prelude.{◌≡◌, ◌<◌, ◌≤◌, ◌+◌, ◌^◌, ℕ, List, [], ◌∷◌, ◌++◌, length, IsTrue, IfOk, OnOk, OnErr, Some};
 ghost use Rattle.sdb_base.specs.Causes.{HasCause};
 ghost use Rattle.sdb_disk.specs.Disk.{SettledFile, LeavesOnly, Elapses};
-ghost use Rattle.sdb_record.specs.Stands.{journal_of};
+ghost use Rattle.sdb_pairs.specs.declared.change.Change.{Change};
+ghost use Rattle.sdb_pairs.specs.Accounts.{DomainEntries};
+ghost use Rattle.sdb_pairs.specs.Changes.{state};
+ghost use Rattle.sdb_record.specs.Journals.{Group, IsClosed, IsGroup, last};
+ghost use Rattle.sdb_record.specs.Stands.{journal_of, reached, HasSmallItems, StandsFor};
+ghost use Rattle.sdb_journal.specs.Creates.{Makes, Created, StandOn};
 ghost use Rattle.sdb_journal.specs.Places.{IsAt};
 ghost use Rattle.sdb_journal.specs.Appends.{body_of, BeforeOrAfter, Appended};
+ghost use Rattle.sdb_journal.specs.Rests.{StandsWith, RestsAt, base_of};
 
 use crate::append::append_at;
+use crate::create::make_first;
 use sdb_disk::{Disk, DiskFault};
 use std::marker::Model;
 
@@ -31,6 +38,30 @@ impl Model for Journal {
 }
 
 impl Journal {
+    /// Makes the first journal, where its file isn't open. Whatever a crash leaves stands for what the files stood for
+    /// before. It takes no memory. After a fault nothing but a new start may use the disk.
+    pub fn create<D: Disk>(disk: &mut D) -> Result<Journal, DiskFault>
+        requires closed { IsTrue (D.state disk.old).told → IsClosed 26 ((D.state disk.old).seen 2) }
+        requires settled { SettledFile (D.state disk.old) 2 }
+
+        ensures done { IfOk result (λ journal. Created journal (D.state disk.old) (D.state disk.new)) }
+        ensures images { IsTrue (D.state disk.old).told → LeavesOnly (D.state disk.old) (D.state disk.new) (Makes (D.state disk.old)) }
+        ensures stands { IsTrue (D.state disk.old).told → (accounts : DomainEntries) (number : ℕ) → StandOn accounts number (D.state disk.old)
+            → LeavesOnly (D.state disk.old) (D.state disk.new) (StandsFor accounts number) }
+        ensures time { Elapses (D.state disk.old) (D.state disk.new) }
+        ensures told { (D.state disk.new).told ≡ (D.state disk.old).told }
+        ensures cause { HasCause (D.state disk.old).faults (D.state disk.new).faults result }
+        ensures syncs { (D.state disk.new).syncs ≤ (D.state disk.old).syncs + 3 }
+    {
+        make_first(disk)?;
+        Ok(Journal {
+            generation: 0,
+            first: 0,
+            gate: 25,
+            sequence: 0,
+        })
+    }
+
     /// The number of the last record.
     pub fn sequence(&self) -> u64
         ensures { result ≡ self.now.sequence }
@@ -59,6 +90,13 @@ impl Journal {
             (BeforeOrAfter (journal_of self.old.generation) self.old.generation self.old.first bodies (body_of frame.old) (D.state disk.old)) }
         ensures done { OnOk result (IsTrue (D.state disk.old).told → (bodies : List (List ℕ)) → IsAt self.old bodies ((D.state disk.old).seen (journal_of self.old.generation))
             → Appended (journal_of self.old.generation) self.new (bodies ++ body_of frame.old ∷ []) (D.state disk.old) (D.state disk.new)) }
+        ensures stands { IsTrue (D.state disk.old).told → (changes : List Change) (groups : List Group) (group : Group) → RestsAt self.old changes groups (D.state disk.old)
+            → IsGroup group (body_of frame.old) → HasSmallItems (reached (base_of self.old changes) groups)
+            → HasSmallItems (state (reached (base_of self.old changes) groups) group) → LeavesOnly (D.state disk.old) (D.state disk.new)
+            (StandsWith (reached (base_of self.old changes) groups) (last self.old.first groups) (Some group)) }
+        ensures rests { OnOk result (IsTrue (D.state disk.old).told → (changes : List Change) (groups : List Group) (group : Group) → RestsAt self.old changes groups (D.state disk.old)
+            → IsGroup group (body_of frame.old) → RestsAt self.new changes (groups ++ group ∷ []) (D.state disk.new)) }
+        ensures same_journal { OnOk result ((self.new.generation ≡ self.old.generation) × (self.new.first ≡ self.old.first)) }
         ensures kept { OnErr result (self.new ≡ self.old) }
         ensures time { Elapses (D.state disk.old) (D.state disk.new) }
         ensures told { (D.state disk.new).told ≡ (D.state disk.old).told }

@@ -2,6 +2,7 @@
 #![tactic(auto)]
 
 mod append;
+mod create;
 mod frame;
 mod journal;
 
