@@ -1,3 +1,4 @@
 pub mod AppendLemmas
 mod CreateLemmas
+mod HeadLemmas
 mod RestLemmas

@@ -1,4 +1,5 @@
 pub mod Appends
 pub mod Creates
+pub mod Heads
 pub mod Places
 pub mod Rests

@@ -4,6 +4,11 @@
 mod append;
 mod create;
 mod frame;
+mod head;
 mod journal;
 
+pub use head::read_head;
 pub use journal::Journal;
+
+#[cfg(test)]
+mod tests;
