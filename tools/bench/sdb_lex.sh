@@ -7,7 +7,7 @@ folder=$(mktemp -d)
 trap 'rm -rf "$folder"' EXIT
 mkdir -p "$folder/crates/bench/src"
 cp -r "$top/crates/sdb_base" "$top/crates/sdb_lex" "$folder/crates/"
-printf 'sdb_base: thiserror\nsdb_lex: sdb_base thiserror\nbench: sdb_lex sdb_base anyhow\n' > "$folder/crates.txt"
+printf 'sdb_base: arrayvec thiserror\nsdb_lex: sdb_base thiserror\nbench: sdb_lex sdb_base anyhow\n' > "$folder/crates.txt"
 cp "$top/tools/bench/sdb_lex.txt" "$folder/crates/bench/src/main.rt"
 cd "$folder/crates/bench"
 rt run

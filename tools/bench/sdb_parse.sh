@@ -7,7 +7,7 @@ folder=$(mktemp -d)
 trap 'rm -rf "$folder"' EXIT
 mkdir -p "$folder/crates/bench/src"
 cp -r "$top/crates/sdb_base" "$top/crates/sdb_tables" "$top/crates/sdb_lex" "$top/crates/sdb_parse" "$folder/crates/"
-printf 'sdb_base: thiserror\nsdb_tables: sdb_base\nsdb_lex: sdb_base thiserror\nsdb_parse: sdb_base sdb_lex sdb_tables thiserror\nbench: sdb_parse sdb_base anyhow\n' > "$folder/crates.txt"
+printf 'sdb_base: arrayvec thiserror\nsdb_tables: sdb_base\nsdb_lex: sdb_base thiserror\nsdb_parse: sdb_base sdb_lex sdb_tables thiserror\nbench: sdb_parse sdb_base anyhow\n' > "$folder/crates.txt"
 cp "$top/tools/bench/sdb_parse.txt" "$folder/crates/bench/src/main.rt"
 cd "$folder/crates/bench"
 rt run
