@@ -7,7 +7,7 @@ ghost use Rattle.sdb_http.specs.Messages.{trim};
 
 use crate::fault::HttpFault;
 use crate::layout::Layout;
-use crate::look::{Found, Known, look, message_at};
+use crate::look::{Found, Known, look, message_at, rest_after, trim};
 use crate::message::Message;
 use sdb_base::OutOfMemory;
 use std::alloc::Global;
@@ -132,7 +132,7 @@ impl Feed {
             });
             return Ok(());
         }
-        let fresh = unless_skipped(self.front.start == self.bytes.len(), piece);
+        let fresh = kept_part(self.front.start == self.bytes.len(), piece);
         self.bytes.reserve(fresh.len())?;
         let front = compact(&mut self.bytes, self.front);
         let len = self.bytes.len();
@@ -188,14 +188,12 @@ impl Feed {
     }
 }
 
-// How many bytes stand after a whole message, without CR and LF at their front.
+// How many bytes are held once a whole message is taken off.
 fn rest_len(held: &[u8], last: usize, layout: &Layout) -> usize
     requires { last + 1 + layout.now.length ≤ length held.now }
     ensures { result ≡ length (trim (drop layout.now.length (drop (last + 1) held.now))) }
 {
-    let (_, after) = held.split_at(last + 1);
-    let (_, rest) = after.split_at(layout.length);
-    trim(rest).len()
+    rest_after(held, last, layout).len()
 }
 
 // Drops the bytes before the front once they are more than half of all, so that each byte is moved a
@@ -217,22 +215,11 @@ fn compact(bytes: &mut Vec<u8>, front: Front) -> Front
     }
 }
 
-// The bytes of a piece that are kept: after a whole head began, all.
-fn unless_skipped(is_fresh: bool, piece: &[u8]) -> &[u8]
+// The part of a piece that is kept: where nothing is held, it loses the CR and LF at its front.
+fn kept_part(is_fresh: bool, piece: &[u8]) -> &[u8]
     ensures { result.now ≡ (if is_fresh then trim piece.now else piece.now) }
 {
     if is_fresh { trim(piece) } else { piece }
-}
-
-// The bytes without CR and LF at their front.
-fn trim(bytes: &[u8]) -> &[u8]
-    ensures { result.now ≡ trim bytes.now }
-{
-    let mut left = bytes;
-    while let [b'\r' | b'\n', rest @ ..] = left {
-        left = rest;
-    }
-    left
 }
 
 // Drops the first `start` bytes.
