@@ -151,6 +151,15 @@ Reads-length bytes (reply ∷ replies) held ended (rest, front, inl (last, none,
 Reads-length bytes (reply ∷ replies) held ended (rest, front, inr (goes, reads)) =
     omega (arith, rest-shorter_by bytes reply rest goes front, Reads-length rest replies held ended reads)
 
+-- a take leaves fewer bytes
+fewer_by : (held : List ℕ) (reply : Reply) (rest : List ℕ) (last : Bool) → is_last reply ≡ last → IsFront held reply rest → length (if last then [] else trim rest) < length held
+fewer_by held reply rest true e front = let some : 0 < length (trim held) = IsFront-some held reply rest front in omega (arith, length-trim held)
+fewer_by held reply rest false e front = omega (arith, rest-shorter_by held reply rest e front, length-trim rest)
+
+pub takes_fewer : (old new : State) (reply : Reply) → Takes old (Some reply) new → length new.held < length old.held
+takes_fewer old new reply (live, rest, front, is) =
+    let fewer = fewer_by old.held reply rest (is_last reply) refl front in omega (arith, ap (λ (s : State). length s.held) is)
+
 -- nothing stands at the front of no bytes
 pub HasNone-empty : (bytes : List ℕ) → trim bytes ≡ [] → HasNone bytes
 HasNone-empty bytes empty reply rest front = let some : 0 < length (trim bytes) = IsFront-some bytes reply rest front in absurd (omega (arith, ap length empty))

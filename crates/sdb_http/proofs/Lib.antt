@@ -6,3 +6,4 @@ mod LookLemmas
 mod InsideLemmas
 mod TakeLemmas
 mod ReadingLemmas
+mod HeadLemmas

@@ -1,6 +1,6 @@
 //! The feed: bytes of a connection in, requests out.
 
-ghost use Rattle.std.specs.Prelude.{◌≡◌, ◌∷◌, ◌≤◌, ◌<◌, vec_len, vec_capacity, IfNone, IfOk, IsSome, List, OnErr, OnOk, OnSome, drop, length, ◌+◌, if◌then◌else◌};
+ghost use Rattle.std.specs.Prelude.{◌≡◌, [], ◌∷◌, true, Some, ◌≤◌, ◌<◌, vec_len, vec_capacity, IfNone, IfOk, IsSome, List, OnErr, OnOk, OnSome, drop, length, ◌+◌, if◌then◌else◌};
 ghost use Rattle.sdb_http.specs.Feeds.{AreAll, Back, Call, GoesBack, Pushed, StandsFor, Takes, Took, empty_feed, given, joined, left, pushed, work};
 ghost use Rattle.sdb_http.specs.Inside.{IsFrontOf, held_from, taken};
 ghost use Rattle.sdb_http.specs.Messages.{trim};
@@ -125,11 +125,7 @@ impl Feed {
         ensures err { OnErr result (self.new ≡ self.old) }
     {
         if self.ended {
-            self.mark = Some(Mark {
-                front: self.front,
-                len: self.bytes.len(),
-                ended: true,
-            });
+            self.keep_nothing();
             return Ok(());
         }
         let fresh = kept_part(self.front.start == self.bytes.len(), piece);
@@ -144,6 +140,24 @@ impl Feed {
             ended: false,
         });
         Ok(())
+    }
+
+    // What a push does after an end: the bytes that were kept for `back` go.
+    fn keep_nothing(&mut self)
+        requires { self.old.ended ≡ true }
+        ensures { self.new ≡ record { held = []; ended = true; before = Some ([], true) } }
+    {
+        let front = Front {
+            start: 0,
+            known: Known::Scanned(0),
+        };
+        self.bytes = Vec::new(*self.bytes.allocator());
+        self.front = front;
+        self.mark = Some(Mark {
+            front,
+            len: 0,
+            ended: true,
+        });
     }
 
     fn next(&mut self) -> Result<Option<Result<Message, HttpFault>>, OutOfMemory>
