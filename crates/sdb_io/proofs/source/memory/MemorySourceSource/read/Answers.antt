@@ -1,6 +1,6 @@
 use Rattle.std.proofs.Common.{ap}
 use Rattle.sdb_io.proofs.MemoryLemmas.{taken_off}
-use Rattle.sdb_io.proofs.memory.MemorySourceSource.read.Goals as goal
+use Rattle.sdb_io.proofs.source.memory.MemorySourceSource.read.Goals as goal
 
 pub returns-clause-bytes : goal.returns-clause-bytes
 returns-clause-bytes c =

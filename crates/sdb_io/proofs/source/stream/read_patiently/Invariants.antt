@@ -1,5 +1,5 @@
 use Rattle.std.specs.Io.KnownBytes.{Keeps}
-use Rattle.sdb_io.proofs.streams.read_patiently.Given as goal
+use Rattle.sdb_io.proofs.source.stream.read_patiently.Given as goal
 
 -- an interrupted read takes nothing
 abbrev pub invariant-tries : goal.invariant-tries

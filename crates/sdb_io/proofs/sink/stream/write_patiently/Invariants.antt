@@ -1,5 +1,5 @@
 use Rattle.std.specs.Io.KnownBytes.{Keeps}
-use Rattle.sdb_io.proofs.streams.write_patiently.Given as goal
+use Rattle.sdb_io.proofs.sink.stream.write_patiently.Given as goal
 
 -- an interrupted write takes nothing
 abbrev pub invariant-tries : goal.invariant-tries
