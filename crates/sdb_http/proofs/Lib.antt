@@ -1,4 +1,4 @@
-mod TrimLemmas
+pub mod TrimLemmas
 mod FieldLemmas
 pub mod FrontLemmas
 pub mod FeedLemmas
