@@ -11,6 +11,7 @@ mod LexedLemmas
 mod LineComplete
 mod LineSound
 mod ListedLemmas
+pub mod MeaningLemmas
 mod PatternLemmas
 mod PieceLemmas
 mod PredicateComplete

@@ -4,6 +4,7 @@ pub mod Grammar
 pub mod Judged
 pub mod Lawful
 pub mod Lines
+pub mod Meaning
 pub mod Parsed
 pub mod Patterns
 pub mod Printed
