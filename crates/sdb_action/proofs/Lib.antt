@@ -1,7 +1,10 @@
+pub mod AgreeLemmas
+pub mod AskedLemmas
 pub mod Beginnings
 pub mod FieldLemmas
 pub mod Gathering
 pub mod Grouping
 pub mod LawfulLemmas
 pub mod Places
+pub mod SpellingLemmas
 pub mod StepLemmas

@@ -18,12 +18,12 @@ use Rattle.sdb_action.specs.declared.numbers.EntryKind.{EntryKind}
 use Rattle.sdb_action.specs.Numbers.{Part, part_of}
 use Rattle.sdb_action.specs.Entries.{rising, place_in, places, value_at, part_in, parts_at, entries, there, entry_at}
 
-rising_sorted : (ns : List ℕ) → IsStrictlySortedBy nat_cmp (rising ns)
+pub rising_sorted : (ns : List ℕ) → IsStrictlySortedBy nat_cmp (rising ns)
 unfolding IsStrictlySortedBy
 rising_sorted [] = tt
 rising_sorted (n ∷ ns) = rising-insert_key nat_cmp_total n (rising ns) (rising_sorted ns)
 
-abbrev is_there : ℕ → List ℕ → Bool
+abbrev pub is_there : ℕ → List ℕ → Bool
 is_there q ns = has nat_cmp_total q ns
 
 either : (b : Bool) (part : List ℕ × List ℕ) (parts : NamedValues) → (b || is_some (there parts)) ≡ is_some (there (cons_option (cond b (Some part) None) parts))
@@ -31,7 +31,7 @@ either true part parts = refl
 either false part parts = refl
 
 -- a place is among those that are there just where its entry has a part
-place_there : (kind : EntryKind) (params : NamedValues) (q : ℕ) → is_there q (places kind params) ≡ is_some (there (parts_at kind params q))
+pub place_there : (kind : EntryKind) (params : NamedValues) (q : ℕ) → is_there q (places kind params) ≡ is_some (there (parts_at kind params q))
 place_there kind params q = named_there params
   where
     by_part : (param : List ℕ × List ℕ) (params : NamedValues) (part : Option Part) → part_of kind param.0 ≡ part → is_there q (places kind params) ≡ is_some (there (filter_map (part_in kind q) params))

@@ -1,41 +1,12 @@
 -- The actions and their names (SimpleDB Developer Guide, "API Reference").
 use Rattle.std.specs.Prelude.{ℕ, List, [], ◌∷◌, Option, Some, None, Result, Ok, Err, codes}
-use Rattle.std.specs.Map.{lookup}
+use Rattle.std.specs.List.{find}
 use Rattle.std.specs.Str.{bytes_eq}
 use Rattle.sdb_base.specs.Pairs.{NamedValues, value_of}
 use Rattle.sdb_tables.specs.declared.refusal.Refusal.{Refusal}
 use Rattle.sdb_tables.specs.declared.refusal.Refusal.TheVariants.{MissingParameter, InvalidAction}
 use Rattle.sdb_action.specs.declared.action.Action.{Action}
 use Rattle.sdb_action.specs.declared.action.Action.TheVariants.{CreateDomain, DeleteDomain, ListDomains, DomainMetadata, PutAttributes, BatchPutAttributes, GetAttributes, DeleteAttributes, BatchDeleteAttributes, Select}
-
--- the ten actions
-abbrev pub actions : List (List ℕ × Action)
-actions =
-    (codes "CreateDomain", CreateDomain)
-    ∷
-    (codes "DeleteDomain", DeleteDomain)
-    ∷
-    (codes "ListDomains", ListDomains)
-    ∷
-    (codes "DomainMetadata", DomainMetadata)
-    ∷
-    (codes "PutAttributes", PutAttributes)
-    ∷
-    (codes "BatchPutAttributes", BatchPutAttributes)
-    ∷
-    (codes "GetAttributes", GetAttributes)
-    ∷
-    (codes "DeleteAttributes", DeleteAttributes)
-    ∷
-    (codes "BatchDeleteAttributes", BatchDeleteAttributes)
-    ∷
-    (codes "Select", Select)
-    ∷
-    []
-
--- the action of that name
-unfoldable pub action_named : List ℕ → Option Action
-action_named name = lookup (bytes_eq name) actions
 
 -- the name of an action
 unfoldable pub action_text : Action → List ℕ
@@ -49,6 +20,35 @@ action_text GetAttributes = codes "GetAttributes"
 action_text DeleteAttributes = codes "DeleteAttributes"
 action_text BatchDeleteAttributes = codes "BatchDeleteAttributes"
 action_text Select = codes "Select"
+
+-- the ten actions
+abbrev pub actions : List Action
+actions =
+    CreateDomain
+    ∷
+    DeleteDomain
+    ∷
+    ListDomains
+    ∷
+    DomainMetadata
+    ∷
+    PutAttributes
+    ∷
+    BatchPutAttributes
+    ∷
+    GetAttributes
+    ∷
+    DeleteAttributes
+    ∷
+    BatchDeleteAttributes
+    ∷
+    Select
+    ∷
+    []
+
+-- the action of that name
+unfoldable pub action_named : List ℕ → Option Action
+action_named name = find (λ action. bytes_eq name (action_text action)) actions
 
 -- a name that no action has is InvalidAction
 abbrev pub one_of_ten : Option Action → Result Action Refusal

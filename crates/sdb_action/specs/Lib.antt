@@ -2,6 +2,7 @@ pub mod Actions
 pub mod Asked
 pub mod Entries
 pub mod Lawful
+pub mod Laws
 pub mod Lists
 pub mod Numbers
 pub mod Tables

@@ -14,7 +14,7 @@ use std::alloc::Global;
 use std::collections::BTreeMap;
 use std::marker::Model;
 
-/// A part of an entry: its own name with its value, both lent by the parameters.
+// A part of an entry: its own name with its value, both lent by the parameters.
 #[derive(Debug, Drop)]
 pub(crate) struct Part<'p> {
     name: &'p str,
@@ -29,17 +29,17 @@ impl<'p> Model for Part<'p> {
     ghost view = { λ part. (part.name.now, part.value.now) };
 }
 
-/// The parts of one entry, in the order in which they came.
+// The parts of one entry, in the order in which they came.
 pub(crate) type Parts<'p> = List<Part<'p>>;
 
-/// The entries of a numbered list, in number order.
+// The entries of a numbered list, in number order.
 pub(crate) type Entries<'p> = List<Parts<'p>>;
 
-/// A name with its value.
+// A name with its value.
 trait NamedValue {
     ghost use Rattle.std.specs.Prelude.{List, ℕ};
 
-    /// The name and the value.
+    // The name and the value.
     ghost named: { Self → List ℕ × List ℕ };
 
     fn name(&self) -> &str
@@ -73,7 +73,7 @@ impl<'p> NamedValue for Part<'p> {
     }
 }
 
-/// The entries that some parameter is a part of.
+// The entries that some parameter is a part of.
 pub(crate) fn entries<'p>(
     alloc: Global,
     kind: EntryKind,
@@ -84,7 +84,7 @@ pub(crate) fn entries<'p>(
     in_order(alloc, entries_by_place(alloc, kind, params.as_slice())?)
 }
 
-/// The entries that some part of an entry is a part of.
+// The entries that some part of an entry is a part of.
 pub(crate) fn entries_within<'p>(
     alloc: Global,
     kind: EntryKind,
@@ -141,7 +141,7 @@ fn add_part<'p>(
     Ok(())
 }
 
-/// The value of the part of that name.
+// The value of the part of that name.
 pub(crate) fn value_named<'p>(parts: &'p Parts<'p>, name: &str) -> Option<&'p Text>
     ensures { option_copied result ≡ value_of parts.now name.now }
 {

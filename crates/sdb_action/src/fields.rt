@@ -12,7 +12,7 @@ use sdb_base::{OutOfMemory, Params, Text};
 use sdb_tables::{FieldKind, Fields, ParamRow, Refusal, Rules, read_field, read_rules};
 use std::alloc::Global;
 
-/// The one field of requests that name a domain alone.
+// The one field of requests that name a domain alone.
 const DOMAIN: Rules<1> = Rules {
     rows: [ParamRow {
         name: "DomainName",
@@ -21,7 +21,7 @@ const DOMAIN: Rules<1> = Rules {
     }],
 };
 
-/// The fields of `PutAttributes` and `DeleteAttributes`.
+// The fields of `PutAttributes` and `DeleteAttributes`.
 const ITEM: Rules<2> = Rules {
     rows: [
         ParamRow {
@@ -37,7 +37,7 @@ const ITEM: Rules<2> = Rules {
     ],
 };
 
-/// The fields of `GetAttributes`.
+// The fields of `GetAttributes`.
 const GET: Rules<3> = Rules {
     rows: [
         ParamRow {
@@ -58,7 +58,7 @@ const GET: Rules<3> = Rules {
     ],
 };
 
-/// The fields of `ListDomains`.
+// The fields of `ListDomains`.
 const LIST: Rules<2> = Rules {
     rows: [
         ParamRow {
@@ -74,7 +74,7 @@ const LIST: Rules<2> = Rules {
     ],
 };
 
-/// The fields of `Select`.
+// The fields of `Select`.
 const SELECT: Rules<3> = Rules {
     rows: [
         ParamRow {
@@ -95,49 +95,49 @@ const SELECT: Rules<3> = Rules {
     ],
 };
 
-/// The name of an attribute.
+// The name of an attribute.
 pub(crate) const NAME: ParamRow = ParamRow {
     name: "Name",
     kind: FieldKind::Name,
     needed: true,
 };
 
-/// The value of an attribute that is put.
+// The value of an attribute that is put.
 pub(crate) const VALUE: ParamRow = ParamRow {
     name: "Value",
     kind: FieldKind::Plain(1024),
     needed: true,
 };
 
-/// The value of an attribute that is deleted or expected, which may be absent.
+// The value of an attribute that is deleted or expected, which may be absent.
 pub(crate) const OPTIONAL_VALUE: ParamRow = ParamRow {
     name: "Value",
     kind: FieldKind::Plain(1024),
     needed: false,
 };
 
-/// Whether the old values of a name that is put go.
+// Whether the old values of a name that is put go.
 pub(crate) const REPLACE: ParamRow = ParamRow {
     name: "Replace",
     kind: FieldKind::Flag,
     needed: false,
 };
 
-/// Whether an expected attribute is there.
+// Whether an expected attribute is there.
 pub(crate) const EXISTS: ParamRow = ParamRow {
     name: "Exists",
     kind: FieldKind::Flag,
     needed: false,
 };
 
-/// The name of a batch's item.
+// The name of a batch's item.
 pub(crate) const ITEM_NAME: ParamRow = ParamRow {
     name: "ItemName",
     kind: FieldKind::Name,
     needed: true,
 };
 
-/// The tables of the actions' own fields.
+// The tables of the actions' own fields.
 #[derive(Clone, Copy, Debug, Drop)]
 pub(crate) enum Table {
     Domain,
@@ -147,7 +147,7 @@ pub(crate) enum Table {
     Select,
 }
 
-/// The fields of an action by its table.
+// The fields of an action by its table.
 #[tactic(auto, unfolding(crate::specs::Tables::domain_rows, crate::specs::Tables::item_rows, crate::specs::Tables::get_rows, crate::specs::Tables::list_rows, crate::specs::Tables::select_rows))]
 pub(crate) fn fields_of<'p>(
     alloc: Global,
@@ -166,7 +166,7 @@ pub(crate) fn fields_of<'p>(
     }
 }
 
-/// The field that a row makes of an entry's parts.
+// The field that a row makes of an entry's parts.
 pub(crate) fn part_field<'p>(
     row: &ParamRow,
     parts: &'p Parts<'p>,
@@ -177,7 +177,7 @@ pub(crate) fn part_field<'p>(
     read_field(row, value_named(parts, row.name))
 }
 
-/// The text of a needed field.
+// The text of a needed field.
 pub(crate) fn needed_text(alloc: Global, field: Option<&Text>) -> Result<Text, Refusal>
     ensures { Answers (tables.present (option_copied field.entry)) result }
 {
@@ -187,7 +187,7 @@ pub(crate) fn needed_text(alloc: Global, field: Option<&Text>) -> Result<Text, R
     }
 }
 
-/// The text of a field that may be absent.
+// The text of a field that may be absent.
 pub(crate) fn optional_text(
     alloc: Global,
     field: Option<&Text>,
@@ -200,7 +200,7 @@ pub(crate) fn optional_text(
     }
 }
 
-/// Whether the flag is there, and is that word in any ASCII case.
+// Whether the flag is there, and is that word in any ASCII case.
 pub(crate) fn flag_is(word: &str, field: Option<&Text>) -> bool
     ensures { result ≡ tables.flag_is word.now (option_copied field.entry) }
 {

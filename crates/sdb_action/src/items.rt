@@ -5,17 +5,17 @@ ghost use Rattle.std.specs.Str.{bytes_eq};
 ghost use Rattle.sdb_tables.specs.Answers.{Answers};
 ghost use Rattle.sdb_action.specs.Lists as lists;
 
+use crate::attributes::{drop_parts_within, put_pairs_within, some_entry};
 use crate::each::{FromParts, each};
 use crate::entries::{Entries, Parts, entries};
 use crate::fields::{ITEM_NAME, needed_text, part_field};
 use crate::numbers::EntryKind;
-use crate::pairs::{drop_parts_within, put_pairs_within, some_entry};
 use crate::request::{DropItem, DropItems, PutItem, PutItems};
 use sdb_base::{List, Params, Text};
 use sdb_tables::Refusal;
 use std::alloc::Global;
 
-/// The greatest number of items in one batch.
+// The greatest number of items in one batch.
 const MOST_ITEMS: usize = 25;
 
 #[tactic(auto, unfolding(crate::specs::Tables::item_name_rows, sdb_tables::specs::Rules::fields_by))]
@@ -54,18 +54,18 @@ fn at_most_25<'p>(list: Entries<'p>) -> Result<Entries<'p>, Refusal>
     Ok(list)
 }
 
-/// The entries of a batch, at least 1 and at most 25.
+// The entries of a batch, at least 1 and at most 25.
 fn batch<'p>(alloc: Global, params: &'p Params) -> Result<Entries<'p>, Refusal>
     ensures { Answers (lists.batch params.now) result }
 {
     some_entry(at_most_25(entries(alloc, EntryKind::Item, params)?)?)
 }
 
-/// What has a name.
+// What has a name.
 trait Named {
     ghost use Rattle.std.specs.Prelude.{List, ℕ};
 
-    /// The name's bytes.
+    // The name's bytes.
     ghost named: { Self → List ℕ };
 
     fn name(&self) -> &Text
@@ -94,7 +94,7 @@ fn is_among<T: Named>(item: &T, others: &[T]) -> bool
     others.iter().any(|other| item.name() == other.name())
 }
 
-/// Whether a name stands twice among the at most 25 items of a batch.
+// Whether a name stands twice among the at most 25 items of a batch.
 #[tactic(auto, unfolding(crate::specs::Lists::names_twice))]
 fn names_twice<T: Named>(items: &[T]) -> bool
     ensures { result ≡ lists.names_twice T.named items.now }
@@ -109,7 +109,7 @@ fn names_twice<T: Named>(items: &[T]) -> bool
     false
 }
 
-/// The items of a batch, where no name stands twice.
+// The items of a batch, where no name stands twice.
 fn items_of<T: FromParts + Named + Drop>(alloc: Global, params: &Params) -> Result<List<T>, Refusal>
     ensures { Answers (lists.items_of T.reads T.named params.now) result }
 {
@@ -120,14 +120,14 @@ fn items_of<T: FromParts + Named + Drop>(alloc: Global, params: &Params) -> Resu
     Ok(items)
 }
 
-/// The items of a batch put.
+// The items of a batch put.
 pub(crate) fn put_items(alloc: Global, params: &Params) -> Result<PutItems, Refusal>
     ensures { Answers (lists.put_items params.now) result }
 {
     items_of(alloc, params)
 }
 
-/// The items of a batch deletion.
+// The items of a batch deletion.
 pub(crate) fn drop_items(alloc: Global, params: &Params) -> Result<DropItems, Refusal>
     ensures { Answers (lists.drop_items params.now) result }
 {

@@ -2,24 +2,23 @@
 #![tactic(auto)]
 
 mod action;
-mod asking;
+mod attributes;
 mod each;
 mod entries;
-mod expecting;
+mod expectation;
 mod fields;
 mod items;
 mod laws;
-mod naming;
 mod numbers;
-mod pairs;
 mod request;
 
-pub use action::Action;
-pub use asking::read_request;
-pub use laws::asked_is_lawful;
-pub use naming::read_action;
+pub use action::{Action, read_action};
+pub use laws::{
+    asked_is_lawful, named_parameters_decide, order_is_free, unnamed_parameters_are_free,
+};
 pub use request::{
-    DropItem, DropItems, DropPart, DropParts, Expect, PutItem, PutItems, PutPair, PutPairs, Request,
+    DropItem, DropItems, DropPart, DropParts, Expect, PutItem, PutItems, PutPair, PutPairs,
+    Request, read_request,
 };
 
 #[cfg(test)]

@@ -5,7 +5,7 @@ ghost use Rattle.sdb_action.specs.Numbers as names;
 
 use sdb_base::read_decimal;
 
-/// The numbered lists, by the first word of their parameters' names.
+// The numbered lists, by the first word of their parameters' names.
 #[derive(Clone, Copy, Debug, Drop)]
 pub(crate) enum EntryKind {
     Attribute,
@@ -14,8 +14,8 @@ pub(crate) enum EntryKind {
     Item,
 }
 
-/// The part that a parameter of that name is in such a list: the place of its entry, which is 0
-/// without a number and else the number and 1, and the part's own name.
+// The part that a parameter of that name is in such a list: the place of its entry, which is 0
+// without a number and else the number and 1, and the part's own name.
 pub(crate) fn part_of(kind: EntryKind, name: &str) -> Option<(u16, &str)>
     ensures { option_map (λ part. (part.0, part.1.now)) result ≡ names.part_of kind name.now }
 {
@@ -96,7 +96,7 @@ fn is_item_part(part: &str) -> bool
     part == "ItemName" || attribute_part(part).is_some()
 }
 
-/// `N.part`.
+// `N.part`.
 #[tactic(auto, unfolding(crate::specs::Numbers::numbered))]
 fn numbered(text: &str) -> Option<(u16, &str)>
     ensures { option_map (λ part. (part.0, part.1.now)) result ≡ names.numbered text.now }

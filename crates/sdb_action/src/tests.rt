@@ -17,7 +17,7 @@ const BATCH_PUT: &str = "Action=BatchPutAttributes&DomainName=books&";
 
 const BATCH_DELETE: &str = "Action=BatchDeleteAttributes&DomainName=books&";
 
-/// What a form asks for.
+// What a form asks for.
 fn line_of(rt: &impl AllocGlobal, form: &str) -> Result<String, Fail> {
     let alloc = rt.alloc();
     let params = read(alloc, form.as_bytes())?;
@@ -129,7 +129,7 @@ fn push_drop(line: &mut String, item: &DropItem) -> Result<(), Fail> {
     Ok(())
 }
 
-/// A name with its value, or alone.
+// A name with its value, or alone.
 fn push_pair(line: &mut String, name: &str, value: &Option<Text>) -> Result<(), Fail> {
     match value {
         Some(value) => Ok(write!(line, " {name}={}", value.as_str())?),
@@ -288,7 +288,7 @@ fn the_first_fault_decides(rt: HostRuntime) -> Result<(), Fail> {
     Ok(())
 }
 
-/// The form with so many parts, each of which has its number between two texts.
+// The form with so many parts, each of which has its number between two texts.
 fn numbered(
     rt: &impl AllocGlobal,
     form: &str,

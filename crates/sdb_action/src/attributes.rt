@@ -14,7 +14,7 @@ use sdb_base::{Params, Text, Texts};
 use sdb_tables::Refusal;
 use std::alloc::Global;
 
-/// The greatest number of attributes or attribute names in one list.
+// The greatest number of attributes or attribute names in one list.
 const MOST_ATTRIBUTES: usize = 256;
 
 impl FromParts for PutPair {
@@ -65,7 +65,7 @@ fn at_most_256<'p>(list: Entries<'p>) -> Result<Entries<'p>, Refusal>
     Ok(list)
 }
 
-/// Refuses a list without entries.
+// Refuses a list without entries.
 pub(crate) fn some_entry<'p>(list: Entries<'p>) -> Result<Entries<'p>, Refusal>
     ensures { result ≡ lists.some_entry list.entry }
 {
@@ -75,7 +75,7 @@ pub(crate) fn some_entry<'p>(list: Entries<'p>) -> Result<Entries<'p>, Refusal>
     Ok(list)
 }
 
-/// The pairs of a put, of which there is at least one.
+// The pairs of a put, of which there is at least one.
 fn pairs_of(alloc: Global, list: Entries<'_>) -> Result<PutPairs, Refusal>
     ensures { Answers (lists.pairs_of list.entry) result }
 {
@@ -83,7 +83,7 @@ fn pairs_of(alloc: Global, list: Entries<'_>) -> Result<PutPairs, Refusal>
     each(alloc, &list)
 }
 
-/// The parts of a deletion.
+// The parts of a deletion.
 fn parts_of(alloc: Global, list: Entries<'_>) -> Result<DropParts, Refusal>
     ensures { Answers (lists.parts_of list.entry) result }
 {
@@ -91,35 +91,35 @@ fn parts_of(alloc: Global, list: Entries<'_>) -> Result<DropParts, Refusal>
     each(alloc, &list)
 }
 
-/// The pairs of a put of one item.
+// The pairs of a put of one item.
 pub(crate) fn put_pairs(alloc: Global, params: &Params) -> Result<PutPairs, Refusal>
     ensures { Answers (lists.put_pairs params.now) result }
 {
     pairs_of(alloc, entries(alloc, EntryKind::Attribute, params)?)
 }
 
-/// The parts of a deletion from one item.
+// The parts of a deletion from one item.
 pub(crate) fn drop_parts(alloc: Global, params: &Params) -> Result<DropParts, Refusal>
     ensures { Answers (lists.drop_parts params.now) result }
 {
     parts_of(alloc, entries(alloc, EntryKind::Attribute, params)?)
 }
 
-/// The pairs that a batch puts into one of its items.
+// The pairs that a batch puts into one of its items.
 pub(crate) fn put_pairs_within(alloc: Global, parts: &Parts<'_>) -> Result<PutPairs, Refusal>
     ensures { Answers (lists.put_pairs parts.now) result }
 {
     pairs_of(alloc, entries_within(alloc, EntryKind::Attribute, parts)?)
 }
 
-/// The parts that a batch deletes from one of its items.
+// The parts that a batch deletes from one of its items.
 pub(crate) fn drop_parts_within(alloc: Global, parts: &Parts<'_>) -> Result<DropParts, Refusal>
     ensures { Answers (lists.drop_parts parts.now) result }
 {
     parts_of(alloc, entries_within(alloc, EntryKind::Attribute, parts)?)
 }
 
-/// The attribute names that are asked for.
+// The attribute names that are asked for.
 pub(crate) fn asked_names(alloc: Global, params: &Params) -> Result<Texts, Refusal>
     ensures { Answers (lists.asked_names params.now) result }
 {

@@ -13,7 +13,7 @@ use sdb_base::{Params, Text};
 use sdb_tables::Refusal;
 use std::alloc::Global;
 
-/// A value, or, where `absent`, none.
+// A value, or, where `absent`, none.
 fn expected_value(name: Text, value: Option<Text>, absent: bool) -> Result<Expect, Refusal>
     ensures { result ≡ lists.expected_value name value absent }
 {
@@ -57,7 +57,7 @@ fn one_expectation(alloc: Global, list: &Entries<'_>) -> Result<Option<Expect>, 
     }
 }
 
-/// What a write expects of its item, where it expects something.
+// What a write expects of its item, where it expects something.
 pub(crate) fn expectation(alloc: Global, params: &Params) -> Result<Option<Expect>, Refusal>
     ensures { Answers (lists.expectation params.now) result }
 {
