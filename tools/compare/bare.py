@@ -8,6 +8,7 @@ It prints how often each code came, and ends with status 1 at the first answer t
 
 import base64
 import collections
+import hashlib
 import pathlib
 import random
 import re
@@ -20,7 +21,9 @@ ACTIONS = (
     "CreateDomain DeleteDomain ListDomains DomainMetadata PutAttributes BatchPutAttributes "
     "GetAttributes DeleteAttributes BatchDeleteAttributes Select"
 ).split()
-EXECUTED = "CreateDomain DeleteDomain PutAttributes DeleteAttributes GetAttributes".split()
+EXECUTED = (
+    "CreateDomain DeleteDomain ListDomains DomainMetadata PutAttributes DeleteAttributes GetAttributes"
+).split()
 MESSAGES = {
     "RequestTooLong": "The request body is too long.",
     "InvalidParameterValue": "The value of a parameter is invalid.",
@@ -28,6 +31,7 @@ MESSAGES = {
     "MissingParameter": "A required parameter is missing.",
     "InvalidAction": "The action is not valid.",
     "NoSuchDomain": "The specified domain does not exist.",
+    "InvalidNextToken": "The token is not valid.",
     "NumberSubmittedAttributesExceeded": "The request has too many attributes.",
     "ConditionalCheckFailed": "The conditional check failed.",
     "AttributeDoesNotExist": "The expected attribute does not exist.",
@@ -38,6 +42,7 @@ MESSAGES = {
 }
 NUMBER = "(0|[1-9][0-9]{0,3})"
 BARE = -1  # the place of an entry without a number
+LISTING = b"\x01" + hashlib.sha256(b"ListDomains").digest() + b"\x00"  # what the bytes of its tokens begin with
 
 
 class Refused(Exception):
@@ -244,6 +249,55 @@ def get(domains, domain, item, params):
     return f"<GetAttributesResult>{shown}</GetAttributesResult>", 1000 + 50 * len(pairs)
 
 
+def token_of(name):
+    return base64.b64encode(LISTING + len(name).to_bytes(2, "big") + name).decode()
+
+
+def name_in(token):
+    """The name whose token a text is."""
+    try:
+        found = base64.b64decode(token.encode(), validate=True)
+        name = found[len(LISTING) + 2 :].decode()
+    except ValueError:
+        raise Refused("InvalidNextToken")
+    if not is_name(name) or token_of(name.encode()) != token:
+        raise Refused("InvalidNextToken")
+    return name
+
+
+def list_domains(domains, params):
+    most = params.get("MaxNumberOfDomains", "100")
+    check(re.fullmatch("[1-9][0-9]{0,2}", most) and int(most) <= 100)
+    token = params.get("NextToken")
+    after = name_in(token).encode() if token else b""
+    left = sorted(name for name in domains if name.encode() > after)
+    names = left[: int(most)]
+    shown = "".join(element("DomainName", name) for name in names)
+    if len(left) > len(names):
+        shown += element("NextToken", token_of(names[-1].encode()))
+    return f"<ListDomainsResult>{shown}</ListDomainsResult>", 1000 + 100 * len(names)
+
+
+def size(texts):
+    return sum(len(text.encode()) for text in texts)
+
+
+def metadata(items):
+    pairs = [pair for item in items.values() for pair in item]
+    names = {name for name, _ in pairs}
+    numbers = {
+        "ItemCount": len(items),
+        "ItemNamesSizeBytes": size(items),
+        "AttributeNameCount": len(names),
+        "AttributeNamesSizeBytes": size(names),
+        "AttributeValueCount": len(pairs),
+        "AttributeValuesSizeBytes": size(value for _, value in pairs),
+        "Timestamp": 0,
+    }
+    shown = "".join(element(tag, str(number)) for tag, number in numbers.items())
+    return f"<DomainMetadataResult>{shown}</DomainMetadataResult>", 5000
+
+
 def execute(domains, line):
     """The action of a line, its result and its units."""
     if len(line) > MOST_LINE:
@@ -252,6 +306,8 @@ def execute(domains, line):
     action = need(params, "Action")
     if action not in ACTIONS or action not in EXECUTED:
         raise Refused("InvalidAction")
+    if action == "ListDomains":
+        return (action, *list_domains(domains, params))
     domain = need(params, "DomainName")
     check(re.fullmatch("[a-zA-Z0-9_.-]{3,255}", domain))
     if action == "CreateDomain":
@@ -260,6 +316,8 @@ def execute(domains, line):
     if action == "DeleteDomain":
         domains.pop(domain, None)
         return action, "", 50_000
+    if action == "DomainMetadata":
+        return (action, *metadata(items_of(domains, domain)))
     item = need(params, "ItemName")
     check(is_name(item))
     run = {"PutAttributes": put, "DeleteAttributes": delete, "GetAttributes": get}[action]
@@ -322,11 +380,21 @@ class Lines:
         if self.happens(0.05):
             yield "Expected.3.Name", "a"
 
+    def token(self):
+        whole = token_of(self.one(b"abc", b"books", b"aaa", b"", b"\xc3\xa9"))
+        token = whole if self.happens(0.7) else self.one("", whole[:-1], "B" + whole[1:], whole + "AA==", "x")
+        return token.replace("+", "%2B").replace("=", "%3D")
+
     def parameters(self):
         often = ["PutAttributes"] * 6 + ["GetAttributes"] * 4 + ["DeleteAttributes"] * 3
-        yield "Action", self.one(*often, "CreateDomain", "CreateDomain", "DeleteDomain", "Select", "Fly")
+        seldom = ["CreateDomain"] * 3 + ["ListDomains"] * 2 + ["DomainMetadata"]
+        yield "Action", self.one(*often, *seldom, "DeleteDomain", "Select", "Fly")
+        if self.happens(0.1):
+            yield "MaxNumberOfDomains", self.one("1", "2", "100", "101", "01", "x")
+        if self.happens(0.1):
+            yield "NextToken", self.token()
         if self.happens(0.98):
-            yield "DomainName", self.one(*["books"] * 9, "abc") if self.happens(0.98) else "ab"
+            yield "DomainName", self.one(*["books"] * 9, "abc", "Abc", "zzz") if self.happens(0.98) else "ab"
         if self.happens(0.98):
             yield "ItemName", self.one("i", "j") if self.happens(0.98) else ""
         for _ in range(self.random.randrange(1, 4)):

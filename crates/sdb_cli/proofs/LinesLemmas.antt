@@ -6,7 +6,9 @@ use Rattle.std.proofs.lemmas.Bool.Decides.{eqb_tells}
 use Rattle.std.proofs.lemmas.List.Folds.{list_all-append}
 use Rattle.std.proofs.lemmas.List.Splits.{slice_split-cons_no, length-slice_split}
 use Rattle.sdb_cli.specs.Lines.{but_last, but_empty_last, lines_of, whole_lines, IsOneLine, CutsLines}
-use Rattle.sdb_cli.specs.Plain.{Standing, told, answer, after_line, answers}
+use Rattle.sdb_pairs.specs.Accounts.{DomainEntries}
+use Rattle.sdb_cli.specs.Fed.{Fed}
+use Rattle.sdb_cli.specs.Plain.{Answered, AnswersFrom, IsAnswered, Standing, Tells, after_line, answer}
 
 abbrev lf : ℕ → Bool
 lf b = b == 10
@@ -63,13 +65,16 @@ some_part : (bytes : List ℕ) → 0 < length (slice_split lf bytes)
 some_part bytes = omega (arith, length-slice_split lf bytes)
 
 -- a line that ends: its answer, and what is told then
-pub told-line : (cut : List ℕ → List (List ℕ)) → CutsLines cut → (now next : Standing) (line rest : List ℕ) → IsOneLine now.held → IsOneLine line
-    → next ≡ record { number = now.number + 1; accounts = after_line now.accounts (now.held ++ line); held = [] }
-    → told cut now (line ++ 10 ∷ rest) ≡ answer now.number now.accounts (now.held ++ line) ++ told cut next rest
-told-line cut cuts now next line rest held one is =
-    ap (λ bytes. answers now.number now.accounts (cut bytes)) (sym (append_assoc now.held line (10 ∷ rest)))
-    ∙ ap (answers now.number now.accounts) (cuts.first (now.held ++ line) rest (IsOneLine-append now.held line held one))
-    ∙ ap (λ s. answer now.number now.accounts (now.held ++ line) ++ told cut s rest) (sym is)
+pub Tells-line : (cut : List ℕ → List (List ℕ)) → CutsLines cut → (now next : Standing) (line rest said text : List ℕ) → IsOneLine now.held → IsOneLine line
+    → next.number ≡ now.number + 1 → next.held ≡ [] → IsAnswered now.number now.accounts (now.held ++ line) next.accounts said → Tells cut next rest text
+    → Tells cut now (line ++ 10 ∷ rest) (said ++ text)
+Tells-line cut cuts now next line rest said text held one number none answered tells =
+    let lines : cut (now.held ++ (line ++ 10 ∷ rest)) ≡ (now.held ++ line) ∷ cut rest =
+    ap cut (sym (append_assoc now.held line (10 ∷ rest))) ∙ cuts.first (now.held ++ line) rest (IsOneLine-append now.held line held one) in
+    let N : ℕ → Type 0 = λ n. AnswersFrom n next.accounts (cut (next.held ++ rest)) text in
+    let H : List ℕ → Type 0 = λ h. AnswersFrom (now.number + 1) next.accounts (cut (h ++ rest)) text in
+    let L : List (List ℕ) → Type 0 = λ ls. AnswersFrom now.number now.accounts ls (said ++ text) in
+    subst L (sym lines) (next.accounts, said, text, answered, refl, subst H none (subst N number tells))
 
 split-one-step : (b : ℕ) (line : List ℕ) (t : Bool) → lf b ≡ t → IsOneLine (b ∷ line) → (IsOneLine line → slice_split lf line ≡ line ∷ []) → slice_split lf (b ∷ line) ≡ (b ∷ line) ∷ []
 split-one-step b line true e one after_line = let impossible = rw e at one in cc
@@ -100,43 +105,64 @@ some_bytes [] some = absurd (some refl)
 some_bytes (b ∷ line) some = omega arith
 
 -- the last line, which has no LF
-pub told-last : (now : Standing) → IsOneLine now.held → 0 < length now.held → told lines_of now [] ≡ answer now.number now.accounts (now.held ++ [])
-told-last now one some =
-    ap (λ bytes. answers now.number now.accounts (lines_of bytes)) (append-nil now.held)
-    ∙ ap (λ parts. answers now.number now.accounts (but_empty_last parts)) (split-one now.held one)
-    ∙ ap (answers now.number now.accounts) (last_line now.held some)
-    ∙ append-nil (answer now.number now.accounts now.held)
-    ∙ ap (answer now.number now.accounts) (sym (append-nil now.held))
+pub Tells-last : (now : Standing) (new : DomainEntries) (said : List ℕ) → IsOneLine now.held → 0 < length now.held → IsAnswered now.number now.accounts (now.held ++ []) new said → Tells lines_of now [] said
+Tells-last now new said one some answered =
+    let lines : lines_of (now.held ++ []) ≡ (now.held ++ []) ∷ [] =
+    ap lines_of (append-nil now.held) ∙ ap but_empty_last (split-one now.held one) ∙ last_line now.held some ∙ ap (λ l. l ∷ []) (sym (append-nil now.held)) in
+    let L : List (List ℕ) → Type 0 = λ ls. AnswersFrom now.number now.accounts ls said in
+    subst L (sym lines) (new, said, [], answered, sym (append-nil said), refl)
 
--- how far the lines of a piece are answered: what is appended and what the rest brings are what the piece brings
-pub record Fed (before now : Standing) (old new piece rest : List ℕ) : Type 0 where
-  pub told : (cut : List ℕ → List (List ℕ)) → CutsLines cut → (more : List ℕ) → old ++ told cut before (piece ++ more) ≡ new ++ told cut now (rest ++ more)
-  pub held : IsOneLine now.held
-  pub counted : now.number + length rest ≤ before.number + length piece
+-- no last line is left
+pub Tells-end : (now : Standing) → now.held ≡ [] → Tells lines_of now [] []
+Tells-end now none =
+    let L : List ℕ → Type 0 = λ h. AnswersFrom now.number now.accounts (lines_of (h ++ [])) [] in
+    subst L (sym none) refl
+
+-- a line that hasn't ended is no whole line
+pub Tells-none : (now : Standing) → IsOneLine now.held → Tells whole_lines now [] []
+Tells-none now one =
+    let L : List (List ℕ) → Type 0 = λ ls. AnswersFrom now.number now.accounts ls [] in
+    subst L (sym (ap whole_lines (append-nil now.held) ∙ ap but_last (split-one now.held one))) refl
+
+some_answers : (number : ℕ) (accounts : DomainEntries) (lines : List (List ℕ)) → (text : List ℕ) × AnswersFrom number accounts lines text
+some_answers number accounts [] = ([], refl)
+some_answers number accounts (line ∷ lines) =
+    let rest = some_answers (number + 1) (after_line accounts line) lines in
+    (answer number accounts line ++ rest.0, (after_line accounts line, answer number accounts line, rest.0, inl (refl, refl), refl, rest.1))
+
+-- some text answers what comes
+pub Tells-some : (cut : List ℕ → List (List ℕ)) (now : Standing) (rest : List ℕ) → (text : List ℕ) × Tells cut now rest text
+Tells-some cut now rest = some_answers now.number now.accounts (cut (now.held ++ rest))
+
+-- nothing of a piece is answered yet
+pub Fed-none : (now : Standing) (old piece : List ℕ) → IsOneLine now.held → Fed now now old old piece piece
+Fed-none now old piece held = record {
+  text = [];
+  appended = sym (append-nil old);
+  told = λ cut cuts more after tells. tells;
+  held = held;
+  counted = omega arith;
+}
 
 -- one line more
 pub Fed-line : (before now next : Standing) (old new newer piece rest line : List ℕ) (at : ℕ) → Fed before now old new piece rest
     → at < length rest → IsOneLine (take at rest) → drop at rest ≡ 10 ∷ drop (at + 1) rest → line ≡ take at rest
-    → newer ≡ new ++ answer now.number now.accounts (now.held ++ line)
-    → next ≡ record { number = now.number + 1; accounts = after_line now.accounts (now.held ++ line); held = [] }
+    → Answered now.number now.accounts (now.held ++ line) next.accounts new newer → next.number ≡ now.number + 1 → next.held ≡ []
     → Fed before next old newer piece (drop (at + 1) rest)
-Fed-line before now next old new newer piece rest line at fed inside one ends is answered next_is =
-    let whole : rest ≡ line ++ 10 ∷ drop (at + 1) rest = sym (take-append-drop at rest) ∙ ap (λ l. take at rest ++ l) ends ∙ ap (λ l. l ++ 10 ∷ drop (at + 1) rest) (sym is) in
-    let P : List ℕ → Type 0 = IsOneLine in
+Fed-line before now next old new newer piece rest line at fed inside one ends is answered number none =
+    let said = answered.0 in
+    let tail = drop (at + 1) rest in
+    let whole : rest ≡ line ++ 10 ∷ tail = sym (take-append-drop at rest) ∙ ap (λ l. take at rest ++ l) ends ∙ ap (λ l. l ++ 10 ∷ tail) (sym is) in
+    let O : List ℕ → Type 0 = IsOneLine in
     record {
-      told = λ cut cuts more.
-          fed.told cut cuts more
-          ∙ ap (λ l. new ++ told cut now (l ++ more)) whole
-          ∙ ap (λ l. new ++ told cut now l) (append_assoc line (10 ∷ drop (at + 1) rest) more)
-          ∙ ap (λ l. new ++ l) (told-line cut cuts now next line (drop (at + 1) rest ++ more) fed.held (subst P (sym is) one) next_is)
-          ∙ sym (append_assoc new _ _)
-          ∙ ap (λ l. l ++ told cut next (drop (at + 1) rest ++ more)) (sym answered);
-      held = subst P (sym (ap (λ (s : Standing). s.held) next_is)) refl;
-      counted = omega (arith, fed.counted, ap (λ (s : Standing). s.number) next_is, length-drop (at + 1) rest);
+      text = fed.text ++ said;
+      appended = answered.2 ∙ ap (λ l. l ++ said) fed.appended ∙ append_assoc old fed.text said;
+      told = λ cut cuts more after tells.
+          let G : List ℕ → Type 0 = λ g. Tells cut now g (said ++ after) in
+          let T : List ℕ → Type 0 = λ t. Tells cut before (piece ++ more) t in
+          let here : Tells cut now (line ++ 10 ∷ (tail ++ more)) (said ++ after) = Tells-line cut cuts now next line (tail ++ more) said after fed.held (subst O (sym is) one) number none answered.1 tells in
+          subst T (sym (append_assoc fed.text said after))
+          (fed.told cut cuts more (said ++ after) (subst G (sym (ap (λ l. l ++ more) whole ∙ append_assoc line (10 ∷ tail) more)) here));
+      held = subst O (sym none) refl;
+      counted = omega (arith, fed.counted, number, length-drop (at + 1) rest);
     }
-
--- a line that hasn't ended is no whole line
-pub told-none : (now : Standing) → IsOneLine now.held → told whole_lines now [] ≡ []
-told-none now one =
-    ap (λ bytes. answers now.number now.accounts (whole_lines bytes)) (append-nil now.held)
-    ∙ ap (λ parts. answers now.number now.accounts (but_last parts)) (split-one now.held one)

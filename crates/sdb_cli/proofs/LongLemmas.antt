@@ -4,10 +4,11 @@ use Rattle.std.specs.List.{position}
 use Rattle.std.proofs.lemmas.Bool.{lt-ltb}
 use Rattle.std.proofs.lemmas.List.{length-replicate}
 use Rattle.sdb_tables.specs.declared.refusal.Refusal.TheVariants.{RequestTooLong}
-use Rattle.sdb_cli.specs.Body.{refused}
+use Rattle.sdb_reply.specs.Faults.{refusal_text}
+use Rattle.sdb_cli.specs.Fed.{Fed}
 use Rattle.sdb_cli.specs.Line.{asked}
 use Rattle.sdb_cli.specs.Lines.{Alike, IsOneLine, CutsLines, long_line, most_line, zeros}
-use Rattle.sdb_cli.specs.Plain.{answer, after_line, answers}
+use Rattle.sdb_cli.specs.Plain.{AnswersFrom, IsAnswered, Standing, answer, after_line, id_of}
 use Rattle.sdb_pairs.specs.Accounts.{DomainEntries}
 use Rattle.sdb_cli.proofs.LinesLemmas.{IsOneLine-append, line_end_from_position}
 
@@ -35,7 +36,7 @@ pub asked-long : (line : List ℕ) → most_line < length line → asked line �
 unfolding asked
 asked-long line long = rw (lt-ltb _ _ long) refl
 
-pub answer-long : (number : ℕ) (accounts : DomainEntries) (line : List ℕ) → most_line < length line → answer number accounts line ≡ refused RequestTooLong number ++ 10 ∷ []
+pub answer-long : (number : ℕ) (accounts : DomainEntries) (line : List ℕ) → most_line < length line → answer number accounts line ≡ refusal_text RequestTooLong (id_of number) ++ 10 ∷ []
 unfolding answer
 answer-long number accounts line long = rw (asked-long line long) refl
 
@@ -55,49 +56,89 @@ alike-append : (one other back : List ℕ) → Alike one other → Alike (one ++
 alike-append one other back (inl same) = inl (ap (λ l. l ++ back) same)
 alike-append one other back (inr long) = inr (omega (arith, long.0, length-append one back), omega (arith, long.1, length-append other back))
 
--- the answers to lines of which the first are alike
-answers-alike : (number : ℕ) (accounts : DomainEntries) (one other : List ℕ) (lines : List (List ℕ)) → Alike one other → answers number accounts (one ∷ lines) ≡ answers number accounts (other ∷ lines)
-answers-alike number accounts one other lines alike =
-    ap (λ l. l ++ answers (number + 1) (after_line accounts one) lines) (answer-alike number accounts one other alike)
-    ∙ ap (λ s. answer number accounts other ++ answers (number + 1) s lines) (after_line-alike accounts one other alike)
+-- a line that is answered as another one
+pub IsAnswered-alike : (number : ℕ) (accounts new : DomainEntries) (one other said : List ℕ) → Alike one other → IsAnswered number accounts one new said → IsAnswered number accounts other new said
+IsAnswered-alike number accounts new one other said alike (inl done) = inl (done.0 ∙ after_line-alike accounts one other alike, done.1 ∙ answer-alike number accounts one other alike)
+IsAnswered-alike number accounts new one other said alike (inr lacks) = inr lacks
+
+-- lines that what answers others answers
+abbrev FollowsFrom : List (List ℕ) → List (List ℕ) → Type 0
+FollowsFrom lines others = (number : ℕ) (accounts : DomainEntries) (text : List ℕ) → AnswersFrom number accounts others text → AnswersFrom number accounts lines text
+
+follows-same : (lines others : List (List ℕ)) → others ≡ lines → FollowsFrom lines others
+follows-same lines others same number accounts text tells =
+    let L : List (List ℕ) → Type 0 = λ ls. AnswersFrom number accounts ls text in
+    subst L same tells
+
+follows-first : (one other : List ℕ) (lines : List (List ℕ)) → Alike other one → FollowsFrom (one ∷ lines) (other ∷ lines)
+follows-first one other lines alike number accounts text tells = (
+  tells.0,
+  tells.1,
+  tells.2,
+  IsAnswered-alike number accounts tells.0 other one tells.1 alike tells.3,
+  tells.4,
+  tells.5,
+)
+
+alike-back : (one other : List ℕ) → Alike one other → Alike other one
+alike-back one other (inl same) = inl (sym same)
+alike-back one other (inr long) = inr (long.1, long.0)
 
 -- the last line, where lines alike and too long come before it
-last-alike : (cut : List ℕ → List (List ℕ)) → CutsLines cut → (number : ℕ) (accounts : DomainEntries) (one other : List ℕ) → IsOneLine one → IsOneLine other
-    → (most_line < length one) → (most_line < length other) → answers number accounts (cut one) ≡ answers number accounts (cut other)
-last-alike cut cuts number accounts one other a b long also =
+follows-last : (cut : List ℕ → List (List ℕ)) → CutsLines cut → (one other : List ℕ) → IsOneLine one → IsOneLine other
+    → (most_line < length one) → (most_line < length other) → FollowsFrom (cut one) (cut other)
+follows-last cut cuts one other a b long also =
     elim cuts.last [
-      | inl keeps ↦ ap (answers number accounts) (keeps one a (omega arith)) ∙ answers-alike number accounts one other [] (inr (long, also)) ∙ ap (answers number accounts) (sym (keeps other b (omega arith)))
-      | inr drops ↦ ap (answers number accounts) (drops one a ∙ sym (drops other b))
+      | inl keeps ↦ λ number accounts text tells.
+          follows-same (cut one) (one ∷ []) (sym (keeps one a (omega arith))) number accounts text
+          (follows-first one other [] (inr (also, long)) number accounts text (follows-same (other ∷ []) (cut other) (keeps other b (omega arith)) number accounts text tells))
+      | inr drops ↦ follows-same (cut one) (cut other) (drops other b ∙ sym (drops one a))
     ]
 
-first-alike : (cut : List ℕ → List (List ℕ)) → CutsLines cut → (number : ℕ) (accounts : DomainEntries) (one other line rest more : List ℕ) → IsOneLine one → IsOneLine other → IsOneLine line
-    → more ≡ line ++ 10 ∷ rest → Alike one other → answers number accounts (cut (one ++ more)) ≡ answers number accounts (cut (other ++ more))
-first-alike cut cuts number accounts one other line rest more a b l is alike =
-    ap (λ m. answers number accounts (cut (one ++ m))) is
-    ∙ ap (λ m. answers number accounts (cut m)) (sym (append_assoc one line (10 ∷ rest)))
-    ∙ ap (answers number accounts) (cuts.first (one ++ line) rest (IsOneLine-append one line a l))
-    ∙ answers-alike number accounts (one ++ line) (other ++ line) (cut rest) (alike-append one other line alike)
-    ∙ ap (answers number accounts) (sym (cuts.first (other ++ line) rest (IsOneLine-append other line b l)))
-    ∙ ap (λ m. answers number accounts (cut m)) (append_assoc other line (10 ∷ rest))
-    ∙ ap (λ m. answers number accounts (cut (other ++ m))) (sym is)
+cut-first : (cut : List ℕ → List (List ℕ)) → CutsLines cut → (one line rest more : List ℕ) → IsOneLine one → IsOneLine line → more ≡ line ++ 10 ∷ rest → cut (one ++ more) ≡ (one ++ line) ∷ cut rest
+cut-first cut cuts one line rest more a l is =
+    ap (λ m. cut (one ++ m)) is ∙ ap cut (sym (append_assoc one line (10 ∷ rest))) ∙ cuts.first (one ++ line) rest (IsOneLine-append one line a l)
 
-long-alike : (cut : List ℕ → List (List ℕ)) → CutsLines cut → (number : ℕ) (accounts : DomainEntries) (one other more : List ℕ) → IsOneLine one → IsOneLine other
-    → (most_line < length one) → (most_line < length other) → answers number accounts (cut (one ++ more)) ≡ answers number accounts (cut (other ++ more))
-long-alike cut cuts number accounts one other more a b long also =
+follows-long : (cut : List ℕ → List (List ℕ)) → CutsLines cut → (one other more : List ℕ) → IsOneLine one → IsOneLine other
+    → (most_line < length one) → (most_line < length other) → FollowsFrom (cut (one ++ more)) (cut (other ++ more))
+follows-long cut cuts one other more a b long also =
     elim (position (λ b. b == 10) more) as (λ r. MatchOption r (IsOneLine more) (λ end.
-    (end < length more) × IsOneLine (take end more) × (drop end more ≡ 10 ∷ drop (end + 1) more)) → answers number accounts (cut (one ++ more)) ≡ answers number accounts (cut (other ++ more))) [
-      | None ↦ λ no. last-alike cut cuts number accounts (one ++ more) (other ++ more) (IsOneLine-append one more a no) (IsOneLine-append other more b no)
+    (end < length more) × IsOneLine (take end more) × (drop end more ≡ 10 ∷ drop (end + 1) more)) → FollowsFrom (cut (one ++ more)) (cut (other ++ more))) [
+      | None ↦ λ no. follows-last cut cuts (one ++ more) (other ++ more) (IsOneLine-append one more a no) (IsOneLine-append other more b no)
           (omega (arith, length-append one more)) (omega (arith, length-append other more))
-      | Some at ↦ λ found. first-alike cut cuts number accounts one other (take at more) (drop (at + 1) more) more a b found.1
-          (sym (take-append-drop at more) ∙ ap (λ l. take at more ++ l) found.2) (inr (long, also))
+      | Some at ↦ λ found number accounts text tells.
+          let line = take at more in
+          let rest = drop (at + 1) more in
+          let is : more ≡ line ++ 10 ∷ rest = sym (take-append-drop at more) ∙ ap (λ l. take at more ++ l) found.2 in
+          follows-same (cut (one ++ more)) ((one ++ line) ∷ cut rest) (sym (cut-first cut cuts one line rest more a found.1 is)) number accounts text
+          (follows-first (one ++ line) (other ++ line) (cut rest) (alike-append other one line (inr (also, long))) number accounts text
+          (follows-same ((other ++ line) ∷ cut rest) (cut (other ++ more)) (cut-first cut cuts other line rest more b found.1 is) number accounts text tells))
     ]
     (line_end_from_position more)
 
--- what lines that are alike are told
-pub told-alike : (cut : List ℕ → List (List ℕ)) → CutsLines cut → (number : ℕ) (accounts : DomainEntries) (one other more : List ℕ) → IsOneLine one → IsOneLine other → Alike one other
-    → answers number accounts (cut (one ++ more)) ≡ answers number accounts (cut (other ++ more))
-told-alike cut cuts number accounts one other more a b (inl same) = ap (λ l. answers number accounts (cut (l ++ more))) same
-told-alike cut cuts number accounts one other more a b (inr long) = long-alike cut cuts number accounts one other more a b long.0 long.1
+-- lines that begin alike are answered alike
+pub follows-alike : (cut : List ℕ → List (List ℕ)) → CutsLines cut → (one other more : List ℕ) → IsOneLine one → IsOneLine other → Alike one other
+    → (number : ℕ) (accounts : DomainEntries) (text : List ℕ) → AnswersFrom number accounts (cut (other ++ more)) text → AnswersFrom number accounts (cut (one ++ more)) text
+follows-alike cut cuts one other more a b (inl same) = follows-same (cut (one ++ more)) (cut (other ++ more)) (ap (λ l. cut (l ++ more)) (sym same))
+follows-alike cut cuts one other more a b (inr long) = follows-long cut cuts one other more a b long.0 long.1
+
+-- the rest of a piece is held
+pub Fed-held : (before now next : Standing) (old new piece rest : List ℕ) → Fed before now old new piece rest → IsOneLine rest → next.number ≡ now.number → next.accounts ≡ now.accounts
+    → Alike next.held (now.held ++ rest) → IsOneLine next.held → Fed before next old new piece []
+Fed-held before now next old new piece rest fed one number accounts alike held = record {
+  text = fed.text;
+  appended = fed.appended;
+  told = λ cut cuts more after tells.
+      let N : ℕ → Type 0 = λ n. AnswersFrom n next.accounts (cut (next.held ++ more)) after in
+      let A : DomainEntries → Type 0 = λ a. AnswersFrom now.number a (cut (next.held ++ more)) after in
+      let P : List ℕ → Type 0 = λ l. AnswersFrom now.number now.accounts (cut l) after in
+      fed.told cut cuts more after
+      (subst P (append_assoc now.held rest more)
+      (follows-alike cut cuts (now.held ++ rest) next.held more (IsOneLine-append now.held rest fed.held one) held (alike-back next.held (now.held ++ rest) alike) now.number now.accounts after
+      (subst A accounts (subst N number tells))));
+  held = held;
+  counted = omega (arith, fed.counted, number);
+}
 
 -- what is held of a line that is too long, and of another
 pub held-long : (now bytes : List ℕ) (is_long : Bool) → now ≡ (if is_long then long_line else bytes) → is_long ≡ true → now ≡ long_line

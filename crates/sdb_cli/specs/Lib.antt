@@ -1,9 +1,4 @@
-pub mod Actions
-pub mod Body
-pub mod Digits
-pub mod Escape
-pub mod Executed
-pub mod Gets
+pub mod Fed
 pub mod Line
 pub mod Lines
 pub mod Plain

@@ -3,7 +3,7 @@ use Rattle.std.specs.Prelude.{ℕ, ◌<◌, ◌≤◌, ◌≡◌, ◌⊎◌, ◌
 use Rattle.std.specs.declared.option.Option.{Option}
 use Rattle.std.specs.Io.KnownBytes.{Appends, Consumes, Keeps, IsAtEnd}
 use Rattle.sdb_cli.specs.Lines.{lines_of, whole_lines, CutsLines, IsOneLine}
-use Rattle.sdb_cli.specs.Plain.{Standing, told}
+use Rattle.sdb_cli.specs.Plain.{Standing, Tells}
 use Rattle.sdb_cli.specs.declared.status.Status.{Status}
 use Rattle.sdb_cli.specs.declared.status.Status.TheVariants.{Done, Usage, ReadFault, OutOfMemory, WriteFault, InputTooLong}
 
@@ -11,26 +11,34 @@ use Rattle.sdb_cli.specs.declared.status.Status.TheVariants.{Done, Usage, ReadFa
 abbrev pub AppendsFront : Option (List ℕ) → Option (List ℕ) → List ℕ → Type 0
 AppendsFront before now text = (n : ℕ) × (n ≤ length text) × Appends before now (take n text)
 
+-- a text of which the fact holds is written
+abbrev pub Writes : Option (List ℕ) → Option (List ℕ) → (List ℕ → Type 0) → Type 0
+Writes before now Tell = (text : List ℕ) × Tell text × Appends before now text
+
+-- a front of such a text is written
+abbrev pub WritesFront : Option (List ℕ) → Option (List ℕ) → (List ℕ → Type 0) → Type 0
+WritesFront before now Tell = (text : List ℕ) × Tell text × AppendsFront before now text
+
 -- the input gave all that it had, fewer bytes than the limit, and its lines are answered
 abbrev pub AnswersAll : (limit : ℕ) → Standing → (left rest written all : Option (List ℕ)) → Type 0
 AnswersAll limit start left rest written all =
-    (given : List ℕ) × Consumes left rest given × IsAtEnd rest × (length given < limit) × Appends written all (told lines_of start given)
+    (given : List ℕ) × Consumes left rest given × IsAtEnd rest × (length given < limit) × Writes written all (Tells lines_of start given)
 
 -- the input gave fewer bytes than the limit, and their whole lines are answered
 abbrev pub AnswersWhole : (limit : ℕ) → Standing → (left rest written all : Option (List ℕ)) → Type 0
 AnswersWhole limit start left rest written all =
-    (given : List ℕ) × Consumes left rest given × (length given < limit) × Appends written all (told whole_lines start given)
+    (given : List ℕ) × Consumes left rest given × (length given < limit) × Writes written all (Tells whole_lines start given)
 
 -- the input gave as many bytes as the limit, and their whole lines are answered
 abbrev pub AnswersLimit : (limit : ℕ) → Standing → (left rest written all : Option (List ℕ)) → Type 0
 AnswersLimit limit start left rest written all =
-    (given : List ℕ) × Consumes left rest given × (length given ≡ limit) × Appends written all (told whole_lines start given)
+    (given : List ℕ) × Consumes left rest given × (length given ≡ limit) × Writes written all (Tells whole_lines start given)
 
 -- a front of the answers to the lines that the input gave is written; the last line counts without an LF where the input is at its end
 abbrev pub AnswersFront : (limit : ℕ) → Standing → (left rest written all : Option (List ℕ)) → Type 0
 AnswersFront limit start left rest written all =
     (given : List ℕ) × Consumes left rest given × (length given ≤ limit)
-    × (AppendsFront written all (told whole_lines start given) ⊎ (IsAtEnd rest × AppendsFront written all (told lines_of start given)))
+    × (WritesFront written all (Tells whole_lines start given) ⊎ (IsAtEnd rest × WritesFront written all (Tells lines_of start given)))
 
 -- what a status says of the input and the output
 abbrev pub Ends : Status → (limit : ℕ) → Standing → (left rest written all : Option (List ℕ)) → Type 0
@@ -48,14 +56,14 @@ pub record Going (start now : Standing) (left rest written all : Option (List �
   pub counted : length given ≡ count
   pub read : Consumes left rest given
   pub wrote : Appends written all text
-  pub agrees : (cut : List ℕ → List (List ℕ)) → CutsLines cut → (more : List ℕ) → told cut start (given ++ more) ≡ text ++ told cut now more
+  pub agrees : (cut : List ℕ → List (List ℕ)) → CutsLines cut → (more after : List ℕ) → Tells cut now more after → Tells cut start (given ++ more) (text ++ after)
   pub held : IsOneLine now.held
   pub numbered : now.number ≤ start.number + count
 
 -- what a turn that failed says: it took at most so many bytes, and wrote a front of the answers to their whole lines
 abbrev pub StopsFront : (most : ℕ) → Standing → (left rest written all : Option (List ℕ)) → Type 0
 StopsFront most start left rest written all =
-    (given : List ℕ) × Consumes left rest given × (length given ≤ most) × AppendsFront written all (told whole_lines start given)
+    (given : List ℕ) × Consumes left rest given × (length given ≤ most) × WritesFront written all (Tells whole_lines start given)
 
 -- what holds where a run stops with a status
 abbrev pub Stops : Status → (most : ℕ) → Standing → (left rest written all : Option (List ℕ)) → Type 0
@@ -68,9 +76,9 @@ Stops InputTooLong = λ most start left rest written all. ⊥
 
 -- what the last step says, where the input is at its end
 abbrev pub Finishes : Status → Standing → (written all : Option (List ℕ)) → Type 0
-Finishes Done start written all = Appends written all (told lines_of start [])
-Finishes OutOfMemory start written all = AppendsFront written all (told lines_of start [])
-Finishes WriteFault start written all = AppendsFront written all (told lines_of start [])
+Finishes Done start written all = Writes written all (Tells lines_of start [])
+Finishes OutOfMemory start written all = WritesFront written all (Tells lines_of start [])
+Finishes WriteFault start written all = WritesFront written all (Tells lines_of start [])
 Finishes ReadFault start written all = ⊥
 Finishes Usage start written all = ⊥
 Finishes InputTooLong start written all = ⊥

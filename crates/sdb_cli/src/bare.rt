@@ -7,9 +7,9 @@ ghost use Rattle.sdb_cli.specs.Plain.{beginning};
 ghost use Rattle.sdb_cli.specs.Runs.{Ends, Going, Stops, Finishes};
 ghost use Rattle.sdb_cli.specs.Standing.{standing};
 
+use crate::gathered::Gathered;
 use crate::session::Session;
 use crate::status::Status;
-use sdb_base::Bytes;
 use sdb_io::{Sink, Source, write_whole};
 use std::alloc::Global;
 
@@ -86,7 +86,7 @@ fn turn<T: Source, K: Sink>(
     let Ok(count) = input.read(buffer) else {
         return Err(Status::ReadFault);
     };
-    let mut out = Bytes::new(alloc);
+    let mut out = Gathered::new(alloc);
     let Ok(()) = session.feed(&buffer[..count], &mut out) else {
         return Err(Status::OutOfMemory);
     };
@@ -103,7 +103,7 @@ fn finish<K: Sink>(alloc: Global, session: &mut Session, output: &mut K) -> Stat
     ensures finishes { Finishes result (standing session.old) (K.written output.old) (K.written output.new) }
     ensures write { result ≡ Status.WriteFault → Rose (K.faults output.old) (K.faults output.new) }
 {
-    let mut out = Bytes::new(alloc);
+    let mut out = Gathered::new(alloc);
     let Ok(()) = session.finish(&mut out) else {
         return Status::OutOfMemory;
     };

@@ -3,17 +3,12 @@
 
 mod answer;
 mod bare;
-mod body;
 mod command;
-mod digits;
-mod done;
-mod escape;
-mod get;
+mod gathered;
 mod held;
 mod line;
 mod session;
 mod status;
-mod texts;
 
 pub use command::run;
 pub use status::Status;

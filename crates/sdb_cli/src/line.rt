@@ -1,5 +1,6 @@
 // The request of a line.
-ghost use Rattle.std.specs.Prelude.{◌≡◌};
+ghost use Rattle.std.specs.Prelude.{◌≡◌, IfOk};
+ghost use Rattle.sdb_answer.specs.Outcome.{IsNoBatch};
 ghost use Rattle.sdb_cli.specs.Line.{asked, is_executed as executes, line_params};
 ghost use Rattle.sdb_tables.specs.Answers.{Answers};
 
@@ -13,7 +14,8 @@ use std::alloc::Global;
 /// The request of a line, or its first refusal: its length, its form, its action, and then the action's
 /// fields and lists.
 pub(crate) fn read_line(alloc: Global, line: &[u8]) -> Result<Request, Refusal>
-    ensures { Answers (asked line.now) result }
+    ensures answer { Answers (asked line.now) result }
+    ensures single { IfOk result IsNoBatch }
 {
     if line.len() > MOST_LINE {
         return Err(Refusal::RequestTooLong);
@@ -41,12 +43,8 @@ fn read_params(alloc: Global, form: &[u8]) -> Result<Params, Refusal>
 fn is_executed(action: Action) -> bool
     ensures { result ≡ executes action }
 {
-    matches!(
+    !matches!(
         action,
-        Action::CreateDomain
-            | Action::DeleteDomain
-            | Action::PutAttributes
-            | Action::DeleteAttributes
-            | Action::GetAttributes
+        Action::BatchPutAttributes | Action::BatchDeleteAttributes | Action::Select
     )
 }

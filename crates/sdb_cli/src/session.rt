@@ -1,12 +1,14 @@
 // Lines that come in pieces.
 ghost use Rattle.std.specs.Prelude.{◌≡◌, ℕ, ◌+◌, ◌-◌, ◌^◌, ◌<◌, ◌≤◌, List, [], ◌∷◌, ◌++◌, length, take, drop, OnOk, MatchOption};
 ghost use Rattle.sdb_cli.specs.Lines.{IsOneLine, CutsLines, lines_of};
-ghost use Rattle.sdb_cli.specs.Plain.{answer as answer_to, after_line, beginning, told};
+ghost use Rattle.sdb_cli.specs.Plain.{Answered, Tells, beginning};
+ghost use Rattle.sdb_cli.specs.Fed.{Fed};
 ghost use Rattle.sdb_cli.specs.Standing.{standing};
 
 use crate::answer::{answer, refuse_long_line};
+use crate::gathered::Gathered;
 use crate::held::HeldLine;
-use sdb_base::{Bytes, OutOfMemory};
+use sdb_base::OutOfMemory;
 use sdb_domain::Accounts;
 use std::alloc::Global;
 
@@ -33,13 +35,10 @@ impl Session {
     }
 
     /// Appends the answers to the lines that end in the piece, and holds what stands after them.
-    pub(crate) fn feed(&mut self, piece: &[u8], out: &mut Bytes) -> Result<(), OutOfMemory>
+    pub(crate) fn feed(&mut self, piece: &[u8], out: &mut Gathered) -> Result<(), OutOfMemory>
         requires numbered { self.old.number + length piece.now < 2 ^ 64 }
         requires held { IsOneLine self.old.held }
-        ensures told { OnOk result ((cut : List ℕ → List (List ℕ)) → CutsLines cut → (more : List ℕ) →
-            out.old.bytes ++ told cut (standing self.old) (piece.now ++ more) ≡ out.new.bytes ++ told cut (standing self.new) more) }
-        ensures held { OnOk result (IsOneLine self.new.held) }
-        ensures counted { OnOk result (self.new.number ≤ self.old.number + length piece.now) }
+        ensures { OnOk result (Fed (standing self.old) (standing self.new) out.old.bytes out.new.bytes piece.now []) }
     {
         let mut rest = piece;
         'lines: while let Some(end) = line_end(rest) {
@@ -51,10 +50,10 @@ impl Session {
     }
 
     /// Appends the answer to the last line, where it has no LF and isn't empty.
-    pub(crate) fn finish(&mut self, out: &mut Bytes) -> Result<(), OutOfMemory>
+    pub(crate) fn finish(&mut self, out: &mut Gathered) -> Result<(), OutOfMemory>
         requires numbered { self.old.number < 2 ^ 64 - 1 }
         requires held { IsOneLine self.old.held }
-        ensures { OnOk result (out.new.bytes ≡ out.old.bytes ++ told lines_of (standing self.old) []) }
+        ensures { OnOk result ((text : List ℕ) × Tells lines_of (standing self.old) [] text × (out.new.bytes ≡ out.old.bytes ++ text)) }
     {
         if !self.held.is_empty() {
             self.end_line(&[], out)?;
@@ -63,10 +62,11 @@ impl Session {
     }
 
     // Answers the line that is held and ends with `end`, and begins a new one.
-    fn end_line(&mut self, end: &[u8], out: &mut Bytes) -> Result<(), OutOfMemory>
+    fn end_line(&mut self, end: &[u8], out: &mut Gathered) -> Result<(), OutOfMemory>
         requires { self.old.number + 1 < 2 ^ 64 }
-        ensures answer { OnOk result (out.new.bytes ≡ out.old.bytes ++ answer_to self.old.number self.old.accounts (self.old.held ++ end.now)) }
-        ensures after { OnOk result (standing self.new ≡ record { number = self.old.number + 1; accounts = after_line self.old.accounts (self.old.held ++ end.now); held = [] }) }
+        ensures answer { OnOk result (Answered self.old.number self.old.accounts (self.old.held ++ end.now) self.new.accounts out.old.bytes out.new.bytes) }
+        ensures number { OnOk result (self.new.number ≡ self.old.number + 1) }
+        ensures held { OnOk result (self.new.held ≡ []) }
     {
         self.answer_line(end, out)?;
         self.held.clear();
@@ -75,9 +75,8 @@ impl Session {
     }
 
     // A line that came in one piece is answered as it stands there.
-    fn answer_line(&mut self, end: &[u8], out: &mut Bytes) -> Result<(), OutOfMemory>
-        ensures answer { OnOk result (out.new.bytes ≡ out.old.bytes ++ answer_to self.old.number self.old.accounts (self.old.held ++ end.now)) }
-        ensures after { OnOk result (self.new.accounts ≡ after_line self.old.accounts (self.old.held ++ end.now)) }
+    fn answer_line(&mut self, end: &[u8], out: &mut Gathered) -> Result<(), OutOfMemory>
+        ensures answer { OnOk result (Answered self.old.number self.old.accounts (self.old.held ++ end.now) self.new.accounts out.old.bytes out.new.bytes) }
         ensures number { self.new.number ≡ self.old.number }
     {
         if self.held.is_empty() {
@@ -88,9 +87,8 @@ impl Session {
     }
 
     // Answers the line that is held.
-    fn answer_held(&mut self, out: &mut Bytes) -> Result<(), OutOfMemory>
-        ensures answer { OnOk result (out.new.bytes ≡ out.old.bytes ++ answer_to self.old.number self.old.accounts self.old.held) }
-        ensures after { OnOk result (self.new.accounts ≡ after_line self.old.accounts self.old.held) }
+    fn answer_held(&mut self, out: &mut Gathered) -> Result<(), OutOfMemory>
+        ensures answer { OnOk result (Answered self.old.number self.old.accounts self.old.held self.new.accounts out.old.bytes out.new.bytes) }
         ensures number { self.new.number ≡ self.old.number }
     {
         match self.held.line() {

@@ -1,6 +1,6 @@
 use Rattle.std.proofs.Common.{length}
+use Rattle.sdb_cli.specs.Fed.{Fed}
 use Rattle.sdb_cli.specs.Standing.{standing}
-use Rattle.sdb_cli.proofs.LinesLemmas.{Fed}
 use Rattle.sdb_cli.proofs.session.Session.feed.Given as goal
 
 abbrev pub invariant-lines : goal.invariant-lines

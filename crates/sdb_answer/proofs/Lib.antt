@@ -1,0 +1,4 @@
+pub mod DescribedLemmas
+pub mod GetLemmas
+pub mod ListingLemmas
+pub mod OutcomeLemmas

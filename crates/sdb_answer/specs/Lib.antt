@@ -1,0 +1,4 @@
+pub mod Described
+pub mod Gets
+pub mod Listing
+pub mod Outcome

@@ -1,0 +1,16 @@
+//! One request answered over the accounts: its outcome, and the changes that it comes to.
+#![tactic(auto)]
+
+mod answered;
+mod answers;
+mod describing;
+mod gets;
+mod laws;
+mod listing;
+
+pub use answered::Answer;
+pub use answers::answer;
+pub use laws::changes_lead_after;
+
+#[cfg(test)]
+mod tests;
