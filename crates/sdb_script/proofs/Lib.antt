@@ -4,6 +4,7 @@ pub mod HeldLemmas
 pub mod OneReading
 pub mod ReadingLemmas
 pub mod RequestLemmas
+pub mod Spelling
 pub mod Spells
 pub mod Stays
 pub mod WorkloadLemmas

@@ -27,7 +27,7 @@ use Rattle.sdb_script.specs.declared.line.Line.TheVariants.{Opened, Piece, Ended
 
 -- ---- decimal numbers
 
-own : IsNumeralModel (λ ds. list_all is_ascii_digit ds ≡ true) (value_after 0)
+pub own : IsNumeralModel (λ ds. list_all is_ascii_digit ds ≡ true) (value_after 0)
 own = numerals_by_fold _ (search rules) value_after (search rules)
 
 pub digits_only : (n : ℕ) → n < 2 ^ 64 → list_all is_ascii_digit (decimal n) ≡ true
@@ -86,7 +86,7 @@ number_split n rest small =
 
 -- ---- lines
 
-abbrev lf : ℕ → Bool
+abbrev pub lf : ℕ → Bool
 lf b = b == line_feed
 
 abbrev IsLine : List ℕ → Type 0
@@ -147,7 +147,7 @@ work_line : line_of (87 ∷ []) ≡ Some Work
 unfolding line_of
 work_line = refl
 
-abbrev head_text : (conn moment size : ℕ) → List ℕ
+abbrev pub head_text : (conn moment size : ℕ) → List ℕ
 head_text conn moment size = decimal conn ++ (32 ∷ (decimal moment ++ (32 ∷ decimal size)))
 
 piece_line : (conn moment size : ℕ) → IsConn conn → moment ≤ most_moment → 1 ≤ size → size ≤ most_piece

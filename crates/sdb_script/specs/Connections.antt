@@ -1,7 +1,6 @@
 -- What is read off the events so far: which connections are open, and the greatest number that one had.
 use Rattle.std.specs.Prelude.{ℕ, List, []}
 use Rattle.std.specs.Ordering.{nat_cmp}
-use Rattle.std.specs.List.{fold}
 use Rattle.std.specs.BTreeMap.{is_at}
 use Rattle.std.specs.BTreeSet.{insert_key}
 use Rattle.std.specs.Set.{remove_key}
@@ -25,7 +24,3 @@ after_event known (Ended conn) = record { greatest = known.greatest; open_number
 after_event known (Piece conn moment bytes) = known
 after_event known Commit = known
 after_event known Work = known
-
--- after all events so far
-abbrev pub connections_after : List Event → Connections
-connections_after events = fold after_event none_opened events

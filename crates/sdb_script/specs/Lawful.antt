@@ -1,6 +1,6 @@
 -- The events that may come next.
-use Rattle.std.specs.Prelude.{◌≡◌, ℕ, ◌<◌, ◌≤◌, true, length}
-use Rattle.sdb_script.specs.Connections.{Connections}
+use Rattle.std.specs.Prelude.{◌≡◌, ℕ, ◌<◌, ◌≤◌, true, List, [], ◌∷◌, length}
+use Rattle.sdb_script.specs.Connections.{Connections, after_event}
 use Rattle.sdb_script.specs.Events.{Event, Opened, Piece, Ended, Commit, Work}
 use Rattle.sdb_script.specs.Lines.{is_open, most_conn, most_moment, most_piece}
 
@@ -17,3 +17,8 @@ MayCome known (Piece conn moment bytes) =
 MayCome known (Ended conn) = IsConn conn × (is_open known conn ≡ true)
 MayCome known Commit = Unit {0}
 MayCome known Work = Unit {0}
+
+-- each may come after those before it
+abbrev pub MayComeInTurn : Connections → List Event → Type 0
+MayComeInTurn known [] = Unit {0}
+MayComeInTurn known (event ∷ events) = MayCome known event × MayComeInTurn (after_event known event) events

@@ -1,11 +1,11 @@
 // The laws of scripts.
-ghost use Rattle.std.specs.Prelude.{◌≡◌, ℕ, ◌+◌, List, ◌∷◌, ◌++◌, drop, length, Option};
-ghost use Rattle.sdb_script.specs.Connections.{Connections, after_event};
+ghost use Rattle.std.specs.Prelude.{◌≡◌, ℕ, ◌+◌, List, ◌∷◌, ◌++◌, drop, take, length, Option, None};
+ghost use Rattle.sdb_script.specs.Connections.{Connections, after_event, none_opened};
 ghost use Rattle.sdb_script.specs.Events.{Event};
 ghost use Rattle.sdb_script.specs.Fronts.{front, Whole, Wrong};
-ghost use Rattle.sdb_script.specs.Lawful.{MayCome};
+ghost use Rattle.sdb_script.specs.Lawful.{MayCome, MayComeInTurn};
 ghost use Rattle.sdb_script.specs.Scripts.{IsScript, Tells};
-ghost use Rattle.sdb_script.specs.Spelled.{spelled};
+ghost use Rattle.sdb_script.specs.Spelled.{script_of, spelled};
 
 /// A text has one reading as a script, whatever came before it.
 pub fn one_reading()
@@ -32,8 +32,20 @@ pub fn events_come_one_by_one()
         → Tells known at (held ++ more) (event ∷ events) wrong }
 {}
 
-/// A record that is spelled is read back, whatever bytes follow.
-pub fn spelled_records_are_read_back()
-    ensures { (known : Connections) (event : Event) (rest : List ℕ)
+/// A record is read exactly where it is spelled: what is spelled is read back, whatever bytes follow, and what
+/// is read may come and is spelled so.
+pub fn records_are_spelled()
+    ensures read_back { (known : Connections) (event : Event) (rest : List ℕ)
         → MayCome known event → front known (spelled event ++ rest) ≡ Whole event (length (spelled event)) }
+    ensures may_come { (known : Connections) (bytes : List ℕ) (event : Event) (size : ℕ)
+        → front known bytes ≡ Whole event size → MayCome known event }
+    ensures spelled { (known : Connections) (bytes : List ℕ) (event : Event) (size : ℕ)
+        → front known bytes ≡ Whole event size → take size bytes ≡ spelled event }
+{}
+
+/// A text tells events to its end exactly where they may come one after the other and it is their records.
+pub fn scripts_are_spelled()
+    ensures told { (events : List Event) → MayComeInTurn none_opened events → IsScript (script_of events) events None }
+    ensures may_come { (bytes : List ℕ) (events : List Event) → IsScript bytes events None → MayComeInTurn none_opened events }
+    ensures spelled { (bytes : List ℕ) (events : List Event) → IsScript bytes events None → bytes ≡ script_of events }
 {}

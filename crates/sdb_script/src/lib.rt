@@ -19,7 +19,8 @@ mod written;
 pub use event::ScriptEvent;
 pub use fault::ScriptFault;
 pub use laws::{
-    events_come_one_by_one, judged_records_stay, one_reading, spelled_records_are_read_back,
+    events_come_one_by_one, judged_records_stay, one_reading, records_are_spelled,
+    scripts_are_spelled,
 };
 pub use reader::ScriptReader;
 pub use workload::generate;
