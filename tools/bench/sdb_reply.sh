@@ -1,16 +1,18 @@
 #!/bin/sh
-# Time of the body of a page of 2,500 items with five pairs each, beside a copy of as many bytes, each the best of
-# 50 in one run. Shows the bytes, the microseconds of the body and of the copy, and the copy's part of the
-# body's time in thousandths.
-set -e
+# Times the body of a page of 2,500 items with five pairs each, beside a copy of as many bytes, each the best of 50 in
+# one run. Shows the bytes, the microseconds of the body and of the copy, and the copy's part of the body's time in
+# thousandths. No program of the repository is changed: the crates are copied to a temporary folder, which gets a
+# program of its own.
+set -eu
 top=$(cd "$(dirname "$0")/../.." && pwd)
-work=$(mktemp -d)
-trap 'rm -rf "$work"' EXIT
-cp -r "$top/crates" "$top/crates.txt" "$work"
-cd "$work"
-git init -q .
-mkdir -p crates/reply_bench/src
-cp "$top/tools/bench/sdb_reply.txt" crates/reply_bench/src/main.rt
-echo 'reply_bench: sdb_base sdb_pairs sdb_reply' >> crates.txt
-cd crates/reply_bench
+folder=$(mktemp -d)
+trap 'rm -rf "$folder"' EXIT
+mkdir -p "$folder/crates/bench/src"
+for name in sdb_base sdb_form sdb_tables sdb_pairs sdb_action sdb_domain sdb_http sdb_reply; do
+    cp -r "$top/crates/$name" "$folder/crates/"
+    grep "^$name:" "$top/crates.txt" >> "$folder/crates.txt"
+done
+printf 'bench: sdb_base sdb_pairs sdb_reply\n' >> "$folder/crates.txt"
+cp "$top/tools/bench/sdb_reply.txt" "$folder/crates/bench/src/main.rt"
+cd "$folder/crates/bench"
 rt run

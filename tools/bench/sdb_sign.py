@@ -25,20 +25,31 @@ def signature_of(text):
     return base64.b64encode(hmac.new(SECRET, text.encode(), hashlib.sha256).digest()).decode()
 
 
-def put(size):
-    params = {
-        "Action": "PutAttributes",
-        "Version": "2009-04-15",
+def get():
+    return {
         "AWSAccessKeyId": "AK1",
-        "SignatureVersion": "2",
-        "SignatureMethod": "HmacSHA256",
-        "Timestamp": "2010-01-01T00:00:00Z",
+        "Action": "GetAttributes",
         "DomainName": "books",
         "ItemName": "i1",
+        "SignatureMethod": "HmacSHA256",
+        "SignatureVersion": "2",
+        "Timestamp": "2010-01-01T00:00:00Z",
+        "Version": "2009-04-15",
     }
+
+
+def put(size):
+    params = get()
+    params["Action"] = "PutAttributes"
     for number in range(size):
         params["Attribute.%d.Name" % number] = "author %d" % number
         params["Attribute.%d.Value" % number] = "Jane Austen, volume %d" % number
+    return signed(params)
+
+
+def signed(params):
+    """A form in the order of its names, as clients send it, with the signature last."""
+    params = dict(sorted(params.items()))
     params["Signature"] = signature_of(text_to_sign(params))
     return "&".join(escape(name) + "=" + escape(value) for name, value in params.items())
 
@@ -77,5 +88,8 @@ def show(requests, rates):
 if sys.argv[1] == "make":
     for size in SIZES:
         print(put(size))
+elif sys.argv[1] == "forms":
+    print(signed(get()))
+    print(put(5))
 else:
     show(sys.argv[2], sys.argv[3])

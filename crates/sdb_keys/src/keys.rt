@@ -3,6 +3,7 @@
 ghost use Rattle.std.specs.Prelude.{◌≡◌, ◌↔◌, ◌∷◌, ◌++◌, [], length, Contains, IsNone, OnOk, OnErr};
 ghost use Rattle.std.specs.Option.{option_map};
 
+use crate::prepared::PreparedKey;
 use sdb_base::{AccountId, OutOfMemory, Text};
 use std::alloc::Global;
 use std::marker::Model;
@@ -12,7 +13,7 @@ use std::marker::Model;
 pub struct Key {
     pub account: AccountId,
     pub id: Text,
-    pub secret: Text,
+    pub secret: PreparedKey,
 }
 
 /// Keys with distinct ids, in the order of their file. It has no `Debug`, as `Key`.
@@ -69,7 +70,16 @@ impl Keys {
         ensures none { IsNone result ↔ (¬ (Contains (ids_of self.now) id.now)) }
     {
         let key = self.key(id)?;
-        Some((key.account, key.secret.as_str().as_bytes()))
+        Some((key.account, key.secret.secret()))
+    }
+
+    /// The account and the prepared secret of a key id. It takes no memory.
+    pub fn find_prepared(&self, id: &Text) -> Option<(AccountId, &PreparedKey)>
+        ensures { option_map (λ found. (found.0, found.1.now)) result
+            ≡ option_map account_and_secret (find_key self.now id.now) }
+    {
+        let key = self.key(id)?;
+        Some((key.account, &key.secret))
     }
 
     pub(crate) fn has(&self, id: &Text) -> bool

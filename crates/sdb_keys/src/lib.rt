@@ -6,8 +6,12 @@ mod file;
 mod keys;
 mod laws;
 mod line;
+mod mac;
+mod prepared;
 
 pub use fault::KeyFault;
 pub use file::read_keys;
 pub use keys::{Key, Keys};
 pub use laws::one_key;
+pub use mac::hmac;
+pub use prepared::PreparedKey;

@@ -9,6 +9,7 @@ ghost use Rattle.sdb_keys.specs.File.{is_word, is_secret_byte};
 ghost use Rattle.sdb_keys.specs.Reading as reading;
 
 use crate::keys::Key;
+use crate::prepared::PreparedKey;
 use sdb_base::{AccountId, OutOfMemory, Text, read_decimal};
 use std::alloc::Global;
 
@@ -108,7 +109,7 @@ pub fn key_of(alloc: Global, line: &[u8]) -> Result<Option<Key>, OutOfMemory>
     Ok(Some(Key {
         account,
         id,
-        secret,
+        secret: PreparedKey::new(secret),
     }))
 }
 

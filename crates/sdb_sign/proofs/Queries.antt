@@ -1,6 +1,6 @@
 -- The canonical query, parameter by parameter.
 use Rattle.std.proofs.Common.{◌≡◌, ℕ, Bool, true, false, cond, List, [], ◌∷◌, ◌++◌, Bor, map, filter, take, ◌+◌, Some, refl, ap, ◌∙◌}
-use Rattle.std.specs.List.{flat_map, fold, join_by}
+use Rattle.std.specs.List.{fold}
 use Rattle.std.specs.Prelude.{slice_get}
 use Rattle.std.specs.Map.Iter.{deref_pair}
 use Rattle.std.specs.BTreeMap.{insert_entry}
@@ -13,13 +13,7 @@ use Rattle.std.proofs.lemmas.List.Elements.{filter-append}
 use Rattle.std.proofs.lemmas.List.Sums.{fold-append}
 use Rattle.sdb_base.specs.Pairs.{NamedValues}
 use Rattle.sdb_base.specs.Texts.{text_cmp}
-use Rattle.sdb_base.specs.Ascii.{ampersand}
-use Rattle.sdb_sign.specs.Canon.{is_signed_name, rising, signed_params, with_param, written}
-
--- what the parameters that are left bring: before the first there is no `&`
-abbrev pub left_of : Bool → NamedValues → List ℕ
-left_of true params = join_by written (ampersand ∷ []) params
-left_of false params = flat_map (λ param. (ampersand ∷ []) ++ written param) params
+use Rattle.sdb_sign.specs.Canon.{is_signed, is_signed_name, rising, signed_params, with_param}
 
 rising-append : (params more : NamedValues) → rising (params ++ more) ≡ fold with_param (rising params) more
 unfolding rising

@@ -10,7 +10,7 @@ use Rattle.sdb_sign.specs.declared.claim.MomentKind.TheVariants.{Timestamp, Expi
 abbrev pub most_skew : ℕ
 most_skew = 900
 
--- a Timestamp lies near now, and an Expires isn't before it
+-- a Timestamp lies near now, where 900 seconds are accepted on both sides; an Expires isn't before it
 abbrev pub is_fresh : MomentKind → ℕ → ℕ → Bool
 is_fresh Timestamp now moment = nat_le now (moment + most_skew) && nat_le moment (now + most_skew)
 is_fresh Expires now moment = nat_le now moment

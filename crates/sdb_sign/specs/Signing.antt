@@ -7,6 +7,7 @@ use Rattle.sdb_base.specs.declared.verb.Verb.{Verb}
 use Rattle.sdb_base.specs.Pairs.{NamedValues, value_of}
 use Rattle.sdb_base.specs.Results.{◌>>=◌}
 use Rattle.sdb_keys.specs.declared.keys.Key.{Key}
+use Rattle.sdb_keys.specs.Hmac.{hmac}
 use Rattle.sdb_keys.specs.Keys.{account_and_secret, find_key}
 use Rattle.sdb_tables.specs.declared.refusal.Refusal.{Refusal}
 use Rattle.sdb_tables.specs.declared.refusal.Refusal.TheVariants.{AuthFailure, AuthMissingFailure, InvalidParameterCombination, InvalidParameterValue, OutOfMemory, SignatureDoesNotMatch}
@@ -14,7 +15,6 @@ use Rattle.sdb_sign.specs.declared.claim.MomentKind.{MomentKind}
 use Rattle.sdb_sign.specs.declared.claim.MomentKind.TheVariants.{Timestamp, Expires}
 use Rattle.sdb_sign.specs.Canon.{signature_name, text_to_sign}
 use Rattle.sdb_sign.specs.Fresh.{ReadsAs, in_time}
-use Rattle.sdb_sign.specs.Hmac.{hmac}
 
 -- the account that a request is executed for, or why it isn't executed
 abbrev pub Verdict : Type 0

@@ -9,7 +9,8 @@ use sdb_base::Text;
 use sdb_tables::Refusal;
 use sdb_time::read_moment;
 
-// The seconds that a Timestamp may lie before or after the moment at which the request came.
+// The seconds that a Timestamp may lie before or after the moment at which the request came: just so many are
+// accepted, on both sides.
 const MOST_SKEW: u64 = 900;
 
 // Refuses a moment that can't be read or isn't fresh at `now`.

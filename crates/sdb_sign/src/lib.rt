@@ -5,15 +5,14 @@ mod canon;
 mod claim;
 mod fresh;
 mod laws;
-mod mac;
 mod same;
 mod verdict;
 mod words;
 
 pub use canon::string_to_sign;
 pub use laws::{one_order, one_verdict};
-pub use mac::hmac;
 pub use sdb_base::Verb;
+pub use sdb_keys::hmac;
 pub use verdict::verify;
 
 #[cfg(test)]

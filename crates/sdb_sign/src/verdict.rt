@@ -9,11 +9,10 @@ ghost use Rattle.sdb_sign.specs.Signing.{IsVerdict, IsVerdictOrMemory, Verdict, 
 use crate::canon::string_to_sign;
 use crate::claim::claim_of;
 use crate::fresh::check_moment;
-use crate::mac::hmac;
 use crate::same::is_same;
 use base64::engine::general_purpose::STANDARD;
 use sdb_base::{AccountId, OutOfMemory, Params, Text, Verb};
-use sdb_keys::Keys;
+use sdb_keys::{Keys, PreparedKey};
 use sdb_tables::Refusal;
 use std::alloc::Global;
 
@@ -62,12 +61,12 @@ fn verdict(
     ensures { IsVerdictOrMemory (IsVerdict verb host.now params.now keys.now now) result }
 {
     let claim = claim_of(params)?;
-    let Some((account, secret)) = keys.find(claim.key_id) else {
+    let Some((account, key)) = keys.find_prepared(claim.key_id) else {
         return Err(Refusal::AuthFailure);
     };
     check_moment(claim.kind, claim.moment, now)?;
     let text = string_to_sign(alloc, verb, host, params)?;
-    if !is_signed(alloc, secret, text.as_slice(), claim.signature)? {
+    if !is_signed(alloc, key, text.as_slice(), claim.signature)? {
         return Err(Refusal::SignatureDoesNotMatch);
     }
     Ok(account)
@@ -76,12 +75,12 @@ fn verdict(
 #[tactic(auto, unfolding(crate::specs::Signing::signature_of))]
 fn is_signed(
     alloc: Global,
-    secret: &[u8],
+    key: &PreparedKey,
     text: &[u8],
     signature: &Text,
 ) -> Result<bool, OutOfMemory>
-    ensures { IfOk result (λ same. same ≡ bytes_eq signature.now (signature_of secret.now text.now)) }
+    ensures { IfOk result (λ same. same ≡ bytes_eq signature.now (signature_of key.now text.now)) }
 {
-    let wanted = STANDARD.encode(alloc, &hmac(secret, text))?;
+    let wanted = STANDARD.encode(alloc, &key.hmac(text))?;
     Ok(is_same(signature.as_str().as_bytes(), wanted.as_bytes()))
 }

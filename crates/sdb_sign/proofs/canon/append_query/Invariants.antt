@@ -1,6 +1,6 @@
 use Rattle.std.proofs.Common.{◌≡◌, ◌++◌, map, true}
 use Rattle.std.specs.Map.Iter.{deref_pair}
-use Rattle.sdb_sign.proofs.Queries.{left_of}
+use Rattle.sdb_sign.specs.Canon.{left_of}
 use Rattle.sdb_sign.proofs.canon.append_query.Given as goal
 
 abbrev pub invariant-loop-name : goal.invariant-loop-name

@@ -1,5 +1,7 @@
 -- Keyed hashing for message authentication (RFC 2104) over SHA-256 (FIPS 180-4).
 use Rattle.std.specs.Prelude.{ℕ, ◌-◌, nat_le, List, ◌++◌, length, map, replicate, bit_xor, if◌then◌else◌}
+use Rattle.sha2.specs.declared.Sha256.{Sha256}
+use Rattle.sha2.specs.Hashers.{Holds256}
 use Rattle.sha2.specs.Sha256.{sha256}
 
 -- the bytes in a block of SHA-256
@@ -21,3 +23,8 @@ pad mask key = map (λ b. bit_xor b mask) (block_key key)
 -- the HMAC of a message under a key (RFC 2104)
 unfoldable pub hmac : List ℕ → List ℕ → List ℕ
 hmac key message = sha256 (pad 0x5c key ++ sha256 (pad 0x36 key ++ message))
+
+-- two hashes that hold the secret's blocks under the two masks
+pub record IsPrepared (secret : List ℕ) (inner outer : Sha256) : Type 0 where
+  pub holds_inner : Holds256 inner (pad 0x36 secret)
+  pub holds_outer : Holds256 outer (pad 0x5c secret)

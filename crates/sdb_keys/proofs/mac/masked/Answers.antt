@@ -1,7 +1,7 @@
 use Rattle.std.proofs.Common.{get_or, bit_xor, arith}
 use Rattle.std.proofs.lemmas.List.{get_or_default}
 use Rattle.std.proofs.lemmas.List.Edits.{map_over_more}
-use Rattle.sdb_sign.proofs.mac.masked.Goals as goal
+use Rattle.sdb_keys.proofs.mac.masked.Goals as goal
 
 pub loop-b-preserved : goal.loop-b-preserved
 loop-b-preserved c =

@@ -1,5 +1,5 @@
 use Rattle.std.proofs.Common.{◌≡◌, ◌++◌, map, take, drop, bit_xor}
-use Rattle.sdb_sign.proofs.mac.masked.Given as goal
+use Rattle.sdb_keys.proofs.mac.masked.Given as goal
 
 abbrev pub invariant-loop-b : goal.invariant-loop-b
 invariant-loop-b l =

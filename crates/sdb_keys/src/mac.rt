@@ -1,7 +1,7 @@
 //! HMAC over SHA-256.
 
 ghost use Rattle.std.specs.Prelude.{◌≡◌, ◌≤◌, ◌-◌, ◌++◌, length, map, replicate, bit_xor};
-ghost use Rattle.sdb_sign.specs.Hmac.{block_key, hmac};
+ghost use Rattle.sdb_keys.specs.Hmac.{block_key, hmac};
 
 use sha2::{Digest, Sha256};
 
@@ -25,7 +25,7 @@ pub fn hmac(key: &[u8], message: &[u8]) -> [u8; 32]
 
 // The key as a block: hashed where it is longer, and filled with zeros.
 #[tactic(auto, unfolding(crate::specs::Hmac::block_key))]
-fn block_key(key: &[u8]) -> [u8; 64]
+pub(crate) fn block_key(key: &[u8]) -> [u8; 64]
     ensures { result ≡ block_key key.now }
 {
     if key.len() <= BLOCK {
@@ -44,7 +44,7 @@ fn filled(bytes: &[u8]) -> [u8; 64]
     block
 }
 
-fn masked(mut block: [u8; 64], mask: u8) -> [u8; 64]
+pub(crate) fn masked(mut block: [u8; 64], mask: u8) -> [u8; 64]
     ensures { result ≡ map (λ b. bit_xor b mask) block }
 {
     for b in block.iter_mut() {

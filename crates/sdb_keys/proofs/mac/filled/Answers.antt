@@ -1,6 +1,6 @@
 use Rattle.std.proofs.Common.{refl}
 use Rattle.std.proofs.lemmas.List.{drop-replicate}
-use Rattle.sdb_sign.proofs.mac.filled.Goals as goal
+use Rattle.sdb_keys.proofs.mac.filled.Goals as goal
 
 pub returns : goal.returns
 returns c = rw (c.copy_from_slice.ensures.after, drop-replicate) refl
