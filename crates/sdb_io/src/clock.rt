@@ -4,8 +4,10 @@ ghost use Rattle.std.specs.declared.option.Option.{Option};
 ghost use Rattle.sdb_io.specs.Clock.{moment_of, moments_after};
 
 mod memory;
+mod system;
 
 pub use memory::MemoryClock;
+pub use system::SystemClock;
 
 /// A clock that can't fail.
 pub trait Clock {

@@ -10,9 +10,9 @@ mod links;
 mod sink;
 mod source;
 
-pub use clock::{Clock, MemoryClock};
+pub use clock::{Clock, MemoryClock, SystemClock};
 pub use failed::Failed;
-pub use links::{LinkEvent, LinkScript, LinkStep, Links, MemoryLinks};
+pub use links::{LinkEvent, LinkScript, LinkStep, Links, MemoryLinks, TcpLinks};
 pub use sink::{MemorySink, Sink, WriteSink, write_whole};
 pub use source::{MemorySource, ReadSource, Source};
 

@@ -7,9 +7,11 @@ use crate::Failed;
 mod memory;
 mod playback;
 mod script;
+mod tcp;
 
 pub use memory::MemoryLinks;
 pub use script::{LinkScript, LinkStep};
+pub use tcp::TcpLinks;
 
 /// What a call of [`Links::next`] gives. Connections have numbers that rise from 1.
 #[derive(Clone, Copy, Debug, PartialEq, Eq)]
