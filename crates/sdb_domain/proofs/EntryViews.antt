@@ -1,5 +1,5 @@
 -- Entries of which some are hidden, entries taken back, and sums over entries.
-use Rattle.std.proofs.Common.{◌≡◌, ℕ, ◌+◌, Bool, true, false, cond, List, [], ◌∷◌, ◌++◌, Option, Some, None, Ordering, Less, Equal, Greater, refl, sym, ap, ◌∙◌, true≢false, is_eq, is_some, arith, unwrap_or, ◌≤◌}
+use Rattle.std.proofs.Common.{◌≡◌, ℕ, zero, suc, length, drop, ◌+◌, Bool, true, false, cond, List, [], ◌∷◌, ◌++◌, Option, Some, None, Ordering, Less, Equal, Greater, refl, sym, ap, ◌∙◌, true≢false, is_eq, is_some, arith, unwrap_or, ◌≤◌}
 use Rattle.std.specs.Cmp.{IsTotalOrder}
 use Rattle.std.specs.Ordering.{match_ordering}
 use Rattle.std.specs.Map.{lookup, remove_entry, set_value, keys_of}
@@ -24,6 +24,17 @@ none_is_not_some x e = absurd (true≢false (sym (ap is_some e)))
 
 pub some_same : {X : Type 0} (x y : X) → Some x ≡ Some y → x ≡ y
 some_same x y e = ap (λ o. unwrap_or o x) e
+
+pub none_from : {X : Type 0} (o : Option X) → ((x : X) → o ≡ Some x → ⊥) → o ≡ None
+none_from None h = refl
+none_from (Some x) h = absurd (h x refl)
+
+-- past the end nothing is left
+pub nothing_left : {X : Type 0} (xs : List X) (i : ℕ) → length xs ≤ i → drop i xs ≡ []
+nothing_left [] zero le = refl
+nothing_left [] (suc i) le = refl
+nothing_left (x ∷ xs) zero le = absurd (omega arith)
+nothing_left (x ∷ xs) (suc i) le = nothing_left xs i (omega arith)
 
 -- ---- one entry written
 

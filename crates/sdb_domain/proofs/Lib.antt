@@ -5,6 +5,7 @@ pub mod LogLemmas
 pub mod MetadataLemmas
 pub mod NameLemmas
 pub mod NumberLemmas
+pub mod OpenLemmas
 pub mod RangeLemmas
 pub mod SeenLemmas
 pub mod SlotLemmas

@@ -17,7 +17,7 @@ use Rattle.sdb_base.proofs.Cases.{by_bool}
 use Rattle.sdb_domain.specs.declared.account.Undo.{Undo}
 use Rattle.sdb_domain.specs.Keyed.{unwound}
 use Rattle.sdb_domain.specs.Slots.{AccountKept, no_account, account_at, accounts_shown, domains_shown, IsSettled, AreKept}
-use Rattle.sdb_domain.specs.Steps.{AccountSteps, account_of, account_undone, all_undone, CanUndoAll, CanUndoAccount, AreSettledBut, touches, Logs, Settles}
+use Rattle.sdb_domain.specs.Steps.{AccountSteps, account_of, account_undone, all_undone, changed, CanUndoAll, CanUndoAccount, AreSettledBut, touches, Logs, Settles}
 use Rattle.sdb_domain.proofs.EntryViews.{unwound_more}
 use Rattle.sdb_domain.proofs.NumberLemmas.{change_shown, settled_one_shown}
 
@@ -46,6 +46,10 @@ pub set_same : (all : List AccountKept) (i : ℕ) (a : AccountKept) → a ≡ ac
 set_same [] i a e lt = absurd (omega arith)
 set_same (x ∷ all) zero a e lt = ap (λ y. y ∷ all) e
 set_same (x ∷ all) (suc i) a e lt = ap (λ l. x ∷ l) (set_same all i a e (omega arith))
+
+-- an account set, and then what stood there once more
+pub set_kept : (all : List AccountKept) (i : ℕ) (a b : AccountKept) → i < length all → b ≡ account_at all i → set (set all i a) i b ≡ all
+set_kept all i a b lt e = set_twice all i a b ∙ set_same all i b e lt
 
 pub set_length : (all : List AccountKept) (i : ℕ) (a : AccountKept) → length (set all i a) ≡ length all
 set_length [] zero a = refl
@@ -136,8 +140,15 @@ module _ (old : List AccountKept) (i : ℕ) (lt : i < length old) (new : Account
   pub step_shown : accounts_shown (set old i new) ≡ after_change (accounts_shown old) change
   step_shown = change_shown old i new change (let e = place in omega arith) lt steps.made
 
+pub stay_shown : (old : List AccountKept) (i : ℕ) (new : AccountKept) (change : Change) → i < length old → i + 1 ≡ account_of change → new ≡ account_at old i
+    → domains_shown (account_at old i).slots ≡ changed (domains_shown (account_at old i).slots) change → accounts_shown (set old i new) ≡ after_change (accounts_shown old) change
+stay_shown old i new change lt place same stays = change_shown old i new change (omega arith) lt (ap (λ (a : AccountKept). domains_shown a.slots) same ∙ stays)
+
 pub same_logs : (old : List AccountKept) (log : List Undo) → Logs old log old log
 same_logs old log = record { size = refl; taken_back = refl; can = λ h. h; settled = λ h. h }
+
+pub logs_kept : (old new : List AccountKept) (log new_log : List Undo) → new ≡ old → new_log ≡ log → Logs old log new new_log
+logs_kept old new log new_log same e = subst (λ n. Logs old log n new_log) (sym same) (subst (Logs old log old) (sym e) (same_logs old log))
 
 pub more_logs : (a b c : List AccountKept) (l m n : List Undo) → Logs a l b m → Logs b m c n → Logs a l c n
 more_logs a b c l m n h k = record {

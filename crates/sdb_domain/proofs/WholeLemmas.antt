@@ -1,180 +1,153 @@
--- What is kept of a domain stays right when a row is written.
-use Rattle.std.proofs.Common.{◌≡◌, ℕ, ◌+◌, ◌-◌, Bool, true, false, cond, List, [], ◌∷◌, Option, Some, None, refl, sym, ap, ◌∙◌, subst, arith, unwrap_or, fold}
-use Rattle.std.specs.List.{sum_by, count_by}
-use Rattle.std.specs.Map.{remove_entry}
+-- What is kept of a domain stays right when a row is written, and when what is hidden is swept.
+use Rattle.std.proofs.Common.{◌≡◌, ℕ, ◌+◌, ◌-◌, ◌≤◌, false, cond, List, [], ◌∷◌, Option, Some, None, refl, sym, ap, ◌∙◌, subst, arith, All}
+use Rattle.std.specs.List.{sum_by}
+use Rattle.std.specs.List.Sorted.{IsStrictlySortedBy}
+use Rattle.std.specs.Map.{remove_entry, values_of}
 use Rattle.std.specs.BTreeMap.{is_at, insert_entry}
-use Rattle.std.proofs.lemmas.Cmp.{nat_list_cmp_total, eq_by_cmp_equiv}
-use Rattle.std.proofs.lemmas.List.Sums.{sum_by-cons}
+use Rattle.std.proofs.lemmas.Cmp.{nat_list_cmp_total}
+use Rattle.std.proofs.lemmas.List.Elements.{All-nil, All-cons, All-head, All-tail}
 use Rattle.std.proofs.lemmas.Map.Lookups.{exact_bytes}
-use Rattle.std.proofs.lemmas.Map.Text.{is_eq-slice_cmp}
 use Rattle.sdb_base.specs.Texts.{text_cmp}
+use Rattle.sdb_base.specs.Entries.{found, placed, IsRising}
+use Rattle.sdb_base.proofs.EntryLemmas.{found-insert, rising-placed, same_entries, values-placed}
 use Rattle.sdb_pairs.specs.declared.pair.Pair.{Pair}
 use Rattle.sdb_pairs.specs.declared.op.Op.{Op}
-use Rattle.sdb_pairs.specs.Accounts.{ItemEntries, pairs_at}
-use Rattle.sdb_base.specs.Entries.{found, IsRising}
-use Rattle.sdb_pairs.specs.Pairs.{is_named, merged}
-use Rattle.sdb_base.proofs.Cases.{by_bool}
-use Rattle.sdb_base.proofs.EntryLemmas.{found-insert, found-placed, rising-placed, key_at}
-use Rattle.sdb_domain.specs.declared.sums.Sums.{Sums}
-use Rattle.sdb_domain.specs.Held.{NameCounts, count_of, raised, lowered, recounted, Kept, with_row, IsWhole, IsSwept, same, gone}
-use Rattle.sdb_domain.specs.Sums.{row_sums, exchanged}
+use Rattle.sdb_pairs.specs.Accounts.{ItemEntries, pairs_at, IsItem, AreItems}
+use Rattle.sdb_pairs.specs.Changes.{item_with, edited}
+use Rattle.sdb_pairs.specs.Pairs.{pair_cmp, merged}
+use Rattle.sdb_domain.specs.declared.held.RowWas.{RowWas}
+use Rattle.sdb_domain.specs.declared.names.Names.{Names}
 use Rattle.sdb_domain.specs.declared.names.NameWas.{NameWas}
-use Rattle.sdb_domain.specs.Held.{name_undone}
-use Rattle.sdb_domain.specs.Keyed.{back, unwound, seen}
-use Rattle.sdb_pairs.specs.Changes.{item_with}
-use Rattle.sdb_domain.proofs.SeenLemmas.{seen-removed}
+use Rattle.sdb_domain.specs.declared.sums.Sums.{Sums}
+use Rattle.sdb_domain.specs.Held.{Kept, items_kept, IsWhole, IsClean}
+use Rattle.sdb_domain.specs.Keyed.{back, unwound, seen, with_shown, IsSwept, unchanged, removed}
+use Rattle.sdb_domain.specs.Names.{count_of, presence, Recounts, IsTallied, ChangesLogged, is_logged, name_undone, SweepsNames}
+use Rattle.sdb_domain.specs.Sums.{row_sums, exchanged}
+use Rattle.sdb_domain.specs.Undo.{row_undone, ChangesOnly, Sweeps}
 use Rattle.sdb_domain.proofs.EntryViews.{sum_inserted, weight_within, back_inserted, sum_removed, adds}
-
--- ---- counts of names
-
-pub named_at : (q : List ℕ) (p : Pair) → is_at (text_cmp q) p.name ≡ is_named q p
-named_at q p = (eq_by_cmp_equiv nat_list_cmp_total).symm q p.name ∙ is_eq-slice_cmp p.name q
-
-count_set : (names : NameCounts) (k q : List ℕ) (n : ℕ) → count_of (insert_entry text_cmp names k n) q ≡ cond (is_at (text_cmp q) k) n (count_of names q)
-count_set names k q n =
-    ap (λ o. unwrap_or o 0) (found-insert nat_list_cmp_total names k q n) ∙ chosen (is_at (text_cmp q) k) n (found text_cmp names q)
-  where
-    chosen : (b : Bool) (m : ℕ) (o : Option ℕ) → unwrap_or (cond b (Some m) o) 0 ≡ cond b m (unwrap_or o 0)
-    chosen true m o = refl
-    chosen false m o = refl
-
-one_raised : (names : NameCounts) (p : Pair) (q : List ℕ) → count_of (raised names p) q ≡ count_of names q + cond (is_named q p) 1 0
-one_raised names p q =
-    count_set names p.name q (count_of names p.name + 1)
-    ∙ by_bool (is_named q p)
-    (λ t.
-    let at : is_at (text_cmp q) p.name ≡ true = named_at q p ∙ t in
-    let same : q ≡ p.name = key_at exact_bytes q p.name at in
-    ap (λ b. cond b (count_of names p.name + 1) (count_of names q)) at ∙ ap (λ k. count_of names k + 1) (sym same) ∙ ap (λ b. count_of names q + cond b 1 0) (sym t))
-    (λ n.
-    let off : is_at (text_cmp q) p.name ≡ false = named_at q p ∙ n in
-    let zero : count_of names q ≡ count_of names q + 0 = omega arith in
-    ap (λ b. cond b (count_of names p.name + 1) (count_of names q)) off ∙ zero ∙ ap (λ b. count_of names q + cond b 1 0) (sym n))
-
-one_lowered : (names : NameCounts) (p : Pair) (q : List ℕ) → count_of (lowered names p) q ≡ count_of names q - cond (is_named q p) 1 0
-one_lowered names p q =
-    count_set names p.name q (count_of names p.name - 1)
-    ∙ by_bool (is_named q p)
-    (λ t.
-    let at : is_at (text_cmp q) p.name ≡ true = named_at q p ∙ t in
-    let same : q ≡ p.name = key_at exact_bytes q p.name at in
-    ap (λ b. cond b (count_of names p.name - 1) (count_of names q)) at ∙ ap (λ k. count_of names k - 1) (sym same) ∙ ap (λ b. count_of names q - cond b 1 0) (sym t))
-    (λ n.
-    let off : is_at (text_cmp q) p.name ≡ false = named_at q p ∙ n in
-    let zero : count_of names q ≡ count_of names q - 0 = omega arith in
-    ap (λ b. cond b (count_of names p.name - 1) (count_of names q)) off ∙ zero ∙ ap (λ b. count_of names q - cond b 1 0) (sym n))
-
-all_raised : (names : NameCounts) (ps : List Pair) (q : List ℕ) → count_of (fold raised names ps) q ≡ count_of names q + count_by (is_named q) ps
-all_raised names [] q = omega arith
-all_raised names (p ∷ ps) q =
-    let one = one_raised names p q in
-    let more = all_raised (raised names p) ps q in
-    let all : count_by (is_named q) (p ∷ ps) ≡ cond (is_named q p) 1 0 + count_by (is_named q) ps = sum_by-cons (λ x. cond (is_named q x) 1 0) p ps in
-    omega arith
-
-all_lowered : (names : NameCounts) (ps : List Pair) (q : List ℕ) → count_of (fold lowered names ps) q ≡ count_of names q - count_by (is_named q) ps
-all_lowered names [] q = omega arith
-all_lowered names (p ∷ ps) q =
-    let one = one_lowered names p q in
-    let more = all_lowered (lowered names p) ps q in
-    let all : count_by (is_named q) (p ∷ ps) ≡ cond (is_named q p) 1 0 + count_by (is_named q) ps = sum_by-cons (λ x. cond (is_named q x) 1 0) p ps in
-    omega arith
+use Rattle.sdb_domain.proofs.ItemSums.{pairs_kept}
+use Rattle.sdb_domain.proofs.NameLemmas.{swept_hidden, rising_swept, seen_swept}
+use Rattle.sdb_domain.proofs.SeenLemmas.{seen_of, found-seen, rising-seen, seen-put}
 
 -- ---- a row written
 
-module _ (kept : Kept) (name : List ℕ) (new : List Pair) (whole : IsWhole kept) where
+-- no name is counted in a row more often than in all
+pub counted_within : (kept : Kept) (name : List ℕ) → IsWhole kept → (q : List ℕ) → presence q (pairs_at kept.rows name) ≤ count_of kept.names.counts q
+counted_within kept name whole q =
+    let within = weight_within nat_list_cmp_total exact_bytes (λ row. presence q row.1) [] kept.rows name refl in
+    let was = whole.counts q in
+    omega arith
+
+module _ (kept : Kept) (name : List ℕ) (new : List Pair) (rows : ItemEntries) (names : Names) (sums : Sums) (whole : IsWhole kept)
+    (rows_are : rows ≡ insert_entry text_cmp kept.rows name new) (rises : IsStrictlySortedBy pair_cmp new)
+    (recounts : Recounts (pairs_at kept.rows name) new kept.names.counts names.counts) (tally : IsTallied kept.names → IsTallied names)
+    (sums_are : sums ≡ exchanged kept.sums (row_sums (name, pairs_at kept.rows name)) (row_sums (name, new))) where
   -- a sum over rows, to which a row without pairs adds nothing
   exchanged_sum : (f : List ℕ × List Pair → ℕ) (sum : ℕ) → f (name, []) ≡ 0 → sum ≡ sum_by f kept.rows
-      → sum + f (name, new) - f (name, pairs_at kept.rows name) ≡ sum_by f (insert_entry text_cmp kept.rows name new)
+      → sum - f (name, pairs_at kept.rows name) + f (name, new) ≡ sum_by f rows
   exchanged_sum f sum z e =
       let moved = sum_inserted nat_list_cmp_total exact_bytes f [] kept.rows name new z whole.rows_rise in
+      let within = weight_within nat_list_cmp_total exact_bytes f [] kept.rows name z in
+      let all : sum_by f rows ≡ sum_by f (insert_entry text_cmp kept.rows name new) = ap (sum_by f) rows_are in
       omega arith
 
-  whole_counts : (q : List ℕ) → count_of (with_row kept name new).names q ≡ sum_by (λ row. count_by (is_named q) row.1) (with_row kept name new).rows
-  whole_counts q =
-      let f : List ℕ × List Pair → ℕ = λ row. count_by (is_named q) row.1 in
-      let old = pairs_at kept.rows name in
-      let moved = sum_inserted nat_list_cmp_total exact_bytes f [] kept.rows name new refl whole.rows_rise in
-      let within = weight_within nat_list_cmp_total exact_bytes f [] kept.rows name refl in
-      let up = all_raised (fold lowered kept.names old) new q in
-      let down = all_lowered kept.names old q in
+  counts_after : (q : List ℕ) → count_of names.counts q ≡ sum_by (λ row. presence q row.1) rows
+  counts_after q =
+      let moved = sum_inserted nat_list_cmp_total exact_bytes (λ row. presence q row.1) [] kept.rows name new refl whole.rows_rise in
+      let all : sum_by (λ row. presence q row.1) rows ≡ sum_by (λ row. presence q row.1) (insert_entry text_cmp kept.rows name new) = ap (sum_by (λ row. presence q row.1)) rows_are in
       let was = whole.counts q in
+      let h = recounts q in
       omega arith
 
-  pub whole_with_row : IsWhole (with_row kept name new)
-  whole_with_row = record {
-    rows_rise = rising-placed nat_list_cmp_total kept.rows name (Some new) whole.rows_rise;
-    counts = whole_counts;
-    items = exchanged_sum (λ row. (row_sums row).items) kept.sums.items refl whole.items;
-    item_bytes = exchanged_sum (λ row. (row_sums row).item_bytes) kept.sums.item_bytes refl whole.item_bytes;
-    pairs = exchanged_sum (λ row. (row_sums row).pairs) kept.sums.pairs refl whole.pairs;
-    value_bytes = exchanged_sum (λ row. (row_sums row).value_bytes) kept.sums.value_bytes refl whole.value_bytes;
-    weight = exchanged_sum (λ row. (row_sums row).weight) kept.sums.weight refl whole.weight;
+  pub whole_edited : IsWhole (record { rows = rows; names = names; sums = sums })
+  whole_edited = record {
+    rows_rise = subst (IsRising text_cmp) (sym rows_are) (rising-placed nat_list_cmp_total kept.rows name (Some new) whole.rows_rise);
+    pairs_rise = subst (λ l. All (IsStrictlySortedBy pair_cmp) (values_of l)) (sym rows_are) (values-placed nat_list_cmp_total (IsStrictlySortedBy pair_cmp) kept.rows name (Some new) whole.pairs_rise rises);
+    counts = counts_after;
+    tallied = tally whole.tallied;
+    items = ap (λ (s : Sums). s.items) sums_are ∙ exchanged_sum (λ row. (row_sums row).items) kept.sums.items refl whole.items;
+    item_bytes = ap (λ (s : Sums). s.item_bytes) sums_are ∙ exchanged_sum (λ row. (row_sums row).item_bytes) kept.sums.item_bytes refl whole.item_bytes;
+    pairs = ap (λ (s : Sums). s.pairs) sums_are ∙ exchanged_sum (λ row. (row_sums row).pairs) kept.sums.pairs refl whole.pairs;
+    value_bytes = ap (λ (s : Sums). s.value_bytes) sums_are ∙ exchanged_sum (λ row. (row_sums row).value_bytes) kept.sums.value_bytes refl whole.value_bytes;
+    weight = ap (λ (s : Sums). s.weight) sums_are ∙ exchanged_sum (λ row. (row_sums row).weight) kept.sums.weight refl whole.weight;
   }
 
--- ---- an edit, by what each of its steps gives
+  pub items_edited : (ops : List Op) → new ≡ merged (pairs_at kept.rows name) ops → seen item_with rows ≡ edited (items_kept kept) name ops
+  items_edited ops is =
+      ap (seen item_with) rows_are
+      ∙ seen-put item_with kept.rows name new whole.rows_rise
+      ∙ ap (λ ps. placed text_cmp (items_kept kept) name (item_with ps)) (is ∙ ap (λ o. merged o ops) (sym (pairs_kept kept name whole.rows_rise)))
 
-module _ (kept : Kept) (name : List ℕ) (key : List ℕ) (key_is : key ≡ name) (rows : ItemEntries) (names : NameCounts) where
-  pub edit_made : (ops : List Op) (old item old' item' : List Pair) (sums : Sums) → old ≡ pairs_at kept.rows name → item ≡ merged old ops → old' ≡ old → item' ≡ item
-      → rows ≡ insert_entry text_cmp kept.rows key item → names ≡ recounted kept.names old' item' → sums ≡ exchanged kept.sums (row_sums (name, old)) (row_sums (name, item))
-      → record { rows = rows; names = names; sums = sums } ≡ with_row kept name (merged (pairs_at kept.rows name) ops)
-  edit_made ops old item old' item' sums old_is item_is old_same item_same rows_are names_are sums_are =
-      let it : item ≡ merged (pairs_at kept.rows name) ops = item_is ∙ ap (λ o. merged o ops) old_is in
-      let r : rows ≡ insert_entry text_cmp kept.rows name (merged (pairs_at kept.rows name) ops) = rows_are ∙ (λ j. insert_entry text_cmp kept.rows (key_is j) (it j)) in
-      let o : old' ≡ pairs_at kept.rows name = old_same ∙ old_is in
-      let t : item' ≡ merged (pairs_at kept.rows name) ops = item_same ∙ it in
-      let n : names ≡ recounted kept.names (pairs_at kept.rows name) (merged (pairs_at kept.rows name) ops) = names_are ∙ (λ j. recounted kept.names (o j) (t j)) in
-      let s : sums ≡ exchanged kept.sums (row_sums (name, pairs_at kept.rows name)) (row_sums (name, merged (pairs_at kept.rows name) ops)) =
-      sums_are ∙ (λ j. exchanged kept.sums (row_sums (name, old_is j)) (row_sums (name, it j))) in
-      λ i. record { rows = r i; names = n i; sums = s i }
+  pub edit_back : (was : RowWas) → was.name ≡ name → was.item ≡ found text_cmp kept.rows name → was.sums ≡ kept.sums → unwound name_undone names was.names.items ≡ kept.names
+      → row_undone (record { rows = rows; names = names; sums = sums }) was ≡ kept
+  edit_back was name_is item_is same_sums back_names =
+      let r : back rows was.name was.item ≡ kept.rows = (λ j. back (rows_are j) (name_is j) was.item) ∙ back_inserted kept.rows name whole.rows_rise new was.item item_is in
+      λ i. record { rows = r i; names = back_names i; sums = same_sums i }
 
-  pub edit_back : (kept_name : List ℕ) (item : List Pair) (was : Option (List Pair)) (log : List NameWas) → kept_name ≡ name → IsRising text_cmp kept.rows
-      → rows ≡ insert_entry text_cmp kept.rows key item → was ≡ found text_cmp kept.rows key → unwound name_undone names log ≡ kept.names
-      → record { rows = back rows kept_name was; names = unwound name_undone names log; sums = kept.sums } ≡ kept
-  edit_back kept_name item was log name_is s rows_are was_is back_names =
-      let r : back rows kept_name was ≡ kept.rows =
-      (λ j. back ((rows_are ∙ (λ l. insert_entry text_cmp kept.rows (key_is l) item)) j) (name_is j) was)
-      ∙ back_inserted kept.rows name s item was (was_is ∙ ap (found text_cmp kept.rows) key_is) in
-      λ i. record { rows = r i; names = back_names i; sums = kept.sums }
+  pub edit_only : (was : RowWas) → was.name ≡ name → ChangesLogged kept.names.counts names.counts was.names.items → ChangesOnly kept (record { rows = rows; names = names; sums = sums }) was
+  edit_only was name_is logged = record {
+    rows = λ q off. ap (λ l. found text_cmp l q) rows_are ∙ found-insert nat_list_cmp_total kept.rows name q new ∙ ap (λ b. cond b (Some new) (found text_cmp kept.rows q)) (ap (is_at (text_cmp q)) (sym name_is) ∙ off);
+    names = logged;
+  }
 
--- ---- a row without pairs, and a name without pairs, taken out
+-- ---- what is hidden, taken out
 
-pub whole_swept : (kept : Kept) (name : List ℕ) (rows : ItemEntries) (names : NameCounts) → IsWhole kept → IsSwept kept.rows rows name → ((q : List ℕ) → count_of names q ≡ count_of kept.names q)
-    → IsWhole (record { rows = rows; names = names; sums = kept.sums })
-whole_swept kept name rows names whole (same e) counts = record {
-  rows_rise = subst (IsRising text_cmp) (sym e) whole.rows_rise;
-  counts = λ q. counts q ∙ whole.counts q ∙ ap (sum_by (λ row. count_by (is_named q) row.1)) (sym e);
-  items = whole.items ∙ ap (sum_by (λ row. (row_sums row).items)) (sym e);
-  item_bytes = whole.item_bytes ∙ ap (sum_by (λ row. (row_sums row).item_bytes)) (sym e);
-  pairs = whole.pairs ∙ ap (sum_by (λ row. (row_sums row).pairs)) (sym e);
-  value_bytes = whole.value_bytes ∙ ap (sum_by (λ row. (row_sums row).value_bytes)) (sym e);
-  weight = whole.weight ∙ ap (sum_by (λ row. (row_sums row).weight)) (sym e);
-}
-whole_swept kept name rows names whole (gone h e) counts = record {
-  rows_rise = subst (IsRising text_cmp) (sym e) (rising-placed nat_list_cmp_total kept.rows name None whole.rows_rise);
-  counts = λ q. counts q ∙ whole.counts q ∙ unmoved (λ row. count_by (is_named q) row.1) refl;
-  items = whole.items ∙ unmoved (λ row. (row_sums row).items) refl;
-  item_bytes = whole.item_bytes ∙ unmoved (λ row. (row_sums row).item_bytes) refl;
-  pairs = whole.pairs ∙ unmoved (λ row. (row_sums row).pairs) refl;
-  value_bytes = whole.value_bytes ∙ unmoved (λ row. (row_sums row).value_bytes) refl;
-  weight = whole.weight ∙ unmoved (λ row. (row_sums row).weight) refl;
-}
+module _ (kept : Kept) (name : List ℕ) (rows : ItemEntries) (names : Names) (log : List NameWas) (whole : IsWhole kept) (swept : IsSwept [] kept.rows rows name) (sweeps : SweepsNames kept.names names log) where
+  unmoved : (f : List ℕ × List Pair → ℕ) → f (name, []) ≡ 0 → IsSwept [] kept.rows rows name → sum_by f kept.rows ≡ sum_by f rows
+  unmoved f z (unchanged e lacks) = ap (sum_by f) (sym e)
+  unmoved f z (removed h e) =
+      let removed = sum_removed nat_list_cmp_total exact_bytes f kept.rows name in
+      let zero : adds nat_list_cmp_total exact_bytes f name (found text_cmp kept.rows name) ≡ 0 = ap (adds nat_list_cmp_total exact_bytes f name) h ∙ z in
+      let all : sum_by f rows ≡ sum_by f (remove_entry (is_at (text_cmp name)) kept.rows) = ap (sum_by f) e in
+      omega arith
+
+  pairs_left : IsSwept [] kept.rows rows name → All (IsStrictlySortedBy pair_cmp) (values_of rows)
+  pairs_left (unchanged e lacks) = subst (λ l. All (IsStrictlySortedBy pair_cmp) (values_of l)) (sym e) whole.pairs_rise
+  pairs_left (removed h e) = subst (λ l. All (IsStrictlySortedBy pair_cmp) (values_of l)) (sym e) (values-placed nat_list_cmp_total (IsStrictlySortedBy pair_cmp) kept.rows name None whole.pairs_rise tt)
+
+  pub whole_swept : IsWhole (record { rows = rows; names = names; sums = kept.sums })
+  whole_swept = record {
+    rows_rise = rising_swept [] kept.rows rows name whole.rows_rise swept;
+    pairs_rise = pairs_left swept;
+    counts = λ q. sweeps.same q ∙ whole.counts q ∙ unmoved (λ row. presence q row.1) refl swept;
+    tallied = sweeps.tallied whole.tallied;
+    items = whole.items ∙ unmoved (λ row. (row_sums row).items) refl swept;
+    item_bytes = whole.item_bytes ∙ unmoved (λ row. (row_sums row).item_bytes) refl swept;
+    pairs = whole.pairs ∙ unmoved (λ row. (row_sums row).pairs) refl swept;
+    value_bytes = whole.value_bytes ∙ unmoved (λ row. (row_sums row).value_bytes) refl swept;
+    weight = whole.weight ∙ unmoved (λ row. (row_sums row).weight) refl swept;
+  }
+
+  pub items_swept : seen item_with rows ≡ items_kept kept
+  items_swept = seen_swept item_with [] kept.rows rows name refl swept
+
+  pub row_swept : (was : RowWas) → was.name ≡ name → was.names.items ≡ log → Sweeps kept (record { rows = rows; names = names; sums = kept.sums }) was
+  row_swept was name_is log_is = record {
+    rows = λ q h. let r = swept_hidden [] kept.rows rows name whole.rows_rise swept q h in (r.0, ap (is_at (text_cmp q)) name_is ∙ r.1);
+    names = subst (λ l. (q : List ℕ) → found text_cmp names.counts q ≡ Some 0 → (found text_cmp kept.names.counts q ≡ Some 0) × (is_logged q l ≡ false)) (sym log_is) sweeps.swept;
+  }
+
+-- ---- the items in order
+
+front_item : (k : List ℕ) (ps : List Pair) (rest : ItemEntries) → IsStrictlySortedBy pair_cmp ps → All IsItem (values_of rest) → All IsItem (values_of (with_shown k (item_with ps) rest))
+front_item k [] rest s each = each
+front_item k (p ∷ ps) rest s each = All-cons IsItem (p ∷ ps) (values_of rest) (record { some = λ e. cc; rising = s }) each
+
+shown_items : (rows : ItemEntries) → All (IsStrictlySortedBy pair_cmp) (values_of rows) → All IsItem (values_of (seen item_with rows))
+shown_items [] h = All-nil IsItem
+shown_items (e ∷ rows) h =
+    front_item e.0 e.1 (seen item_with rows) (All-head (IsStrictlySortedBy pair_cmp) e.1 (values_of rows) h) (shown_items rows (All-tail (IsStrictlySortedBy pair_cmp) e.1 (values_of rows) h))
+
+pub items_in_order : (kept : Kept) → IsWhole kept → AreItems (items_kept kept)
+items_in_order kept whole = record { rising = rising-seen item_with kept.rows whole.rows_rise; each = shown_items kept.rows whole.pairs_rise }
+
+-- where nothing is hidden, the rows are the items
+pub clean_rows : (kept : Kept) → IsWhole kept → IsClean kept → kept.rows ≡ items_kept kept
+clean_rows kept whole clean =
+    same_entries nat_list_cmp_total exact_bytes kept.rows (items_kept kept) whole.rows_rise (rising-seen item_with kept.rows whole.rows_rise)
+    (λ q. visible q (found text_cmp kept.rows q) refl ∙ sym (found-seen item_with kept.rows q whole.rows_rise))
   where
-    unmoved : (f : List ℕ × List Pair → ℕ) → f (name, []) ≡ 0 → sum_by f kept.rows ≡ sum_by f rows
-    unmoved f z =
-        let removed = sum_removed nat_list_cmp_total exact_bytes f kept.rows name in
-        let zero : adds nat_list_cmp_total exact_bytes f name (found text_cmp kept.rows name) ≡ 0 = ap (adds nat_list_cmp_total exact_bytes f name) h ∙ z in
-        let all : sum_by f rows ≡ sum_by f (remove_entry (is_at (text_cmp name)) kept.rows) = ap (sum_by f) e in
-        omega arith
-
-pub items_swept : (old new : ItemEntries) (name : List ℕ) → IsSwept old new name → seen item_with new ≡ seen item_with old
-items_swept old new name (same e) = ap (seen item_with) e
-items_swept old new name (gone h e) = ap (seen item_with) e ∙ seen-removed item_with old name [] h refl
-
-pub count_removed : (names : NameCounts) (k q : List ℕ) → IsRising text_cmp names → count_of names k ≡ 0 → count_of (remove_entry (is_at (text_cmp k)) names) q ≡ count_of names q
-count_removed names k q s z =
-    ap (λ o. unwrap_or o 0) (found-placed nat_list_cmp_total names k q None s)
-    ∙ by_bool (is_at (text_cmp q) k)
-    (λ at.
-    ap (λ b. unwrap_or (cond b None (found text_cmp names q)) 0) at ∙ sym z ∙ ap (count_of names) (sym (key_at exact_bytes q k at)))
-    (λ off. ap (λ b. unwrap_or (cond b None (found text_cmp names q)) 0) off)
+    visible : (q : List ℕ) (o : Option (List Pair)) → found text_cmp kept.rows q ≡ o → o ≡ seen_of item_with o
+    visible q None e = refl
+    visible q (Some []) e = absurd (clean.rows q e)
+    visible q (Some (p ∷ ps)) e = refl

@@ -1,7 +1,9 @@
 -- The domains of one account as they are kept, and the accounts as one list.
-use Rattle.std.specs.Prelude.{◌≡◌, ℕ, zero, suc, ◌+◌, List, [], ◌∷◌, ◌++◌, length, map, Option, Some, None, IfSome}
+use Rattle.std.specs.Prelude.{◌≡◌, ℕ, zero, suc, ◌+◌, List, [], ◌∷◌, ◌++◌, length, map, Option, Some, None, IfSome, Bool, false, not, is_some}
 use Rattle.std.specs.List.{sum_by}
 use Rattle.sdb_base.specs.Texts.{text_cmp}
+use Rattle.sdb_pairs.specs.declared.change.Change.{Change}
+use Rattle.sdb_pairs.specs.declared.change.Change.TheVariants.{MakeDomain, DropDomain, Edit}
 use Rattle.sdb_pairs.specs.Accounts.{ItemEntries, DomainEntries, AreAccounts}
 use Rattle.sdb_base.specs.Entries.{found, IsRising}
 use Rattle.sdb_domain.specs.declared.slot.Slot.{Slot}
@@ -21,7 +23,7 @@ Domains = List (List ℕ × ItemEntries)
 -- the items that a slot shows: none where its domain was dropped
 abbrev pub shown : Slot → Option ItemEntries
 shown (Settled items) = Some items
-shown (Open kept) = Some (items_kept kept)
+shown (Open opening) = Some (items_kept opening.kept)
 shown Dropped = None
 
 -- the domains that are seen
@@ -58,13 +60,19 @@ pub record IsWholeAccount (account : AccountKept) : Type 0 where
   pub count : account.count ≡ length (domains_shown account.slots)
   pub weight : account.weight ≡ sum_by weight_of_domain (domains_shown account.slots)
 
--- the slot is not open to edits
+-- whether a change leaves the slot as it is: a domain that is there is made, or one that isn't is dropped
+abbrev pub stays : Slot → Change → Bool
+stays slot (MakeDomain account domain) = is_some (shown slot)
+stays slot (DropDomain account domain) = not (is_some (shown slot))
+stays slot (Edit account domain item ops) = false
+
+-- the slot is neither open to edits nor dropped
 abbrev pub IsSettled : Slot → Type 0
 IsSettled (Settled items) = Unit {0}
-IsSettled (Open kept) = ⊥
-IsSettled Dropped = Unit {0}
+IsSettled (Open opening) = ⊥
+IsSettled Dropped = ⊥
 
--- no slot is open
+-- no slot is open or dropped
 abbrev pub AreSettled : Slots → Type 0
 AreSettled slots = (name : List ℕ) → IfSome (found text_cmp slots name) IsSettled
 
@@ -83,7 +91,7 @@ account_at [] n = no_account
 account_at (account ∷ more) zero = account
 account_at (account ∷ more) (suc n) = account_at more n
 
--- what is kept is right: no slot is open, and the list is one of accounts
+-- what is kept is right: no slot is open or dropped, and the list is one of accounts
 pub record AreKept (accounts : List AccountKept) : Type 0 where
   pub settled : (i : ℕ) → AreSettled (account_at accounts i).slots
   pub lawful : AreAccounts (accounts_shown accounts)

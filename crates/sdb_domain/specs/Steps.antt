@@ -1,5 +1,5 @@
 -- Steps on the accounts, and how they are taken back.
-use Rattle.std.specs.Prelude.{◌≡◌, ℕ, ◌-◌, Bool, true, false, List, [], ◌∷◌, length, Option, Some, None, unwrap_or, set, ◌==◌, ◌&&◌, IfSome}
+use Rattle.std.specs.Prelude.{◌≡◌, ℕ, ◌-◌, Bool, true, false, List, [], ◌∷◌, length, Option, Some, None, unwrap_or, set, ◌==◌, ◌&&◌, IfSome, IsSome}
 use Rattle.std.specs.Map.{set_value}
 use Rattle.std.specs.BTreeMap.{is_at}
 use Rattle.std.specs.List.{list_any}
@@ -12,13 +12,13 @@ use Rattle.sdb_base.specs.Entries.{found, placed, IsRising}
 use Rattle.sdb_domain.specs.declared.slot.Slot.{Slot}
 use Rattle.sdb_domain.specs.declared.slot.Slot.TheVariants.{Settled, Open, Dropped}
 use Rattle.sdb_domain.specs.declared.slot.Step.{Step}
-use Rattle.sdb_domain.specs.declared.slot.Step.TheVariants.{Same, Slot as SlotWas, Row}
-use Rattle.sdb_domain.specs.declared.held.RowWas.{RowWas}
+use Rattle.sdb_domain.specs.declared.slot.Step.TheVariants.{Slot as SlotWas, Row}
+use Rattle.sdb_domain.specs.declared.slot.Moved.{Moved}
 use Rattle.sdb_domain.specs.declared.account.Undo.{Undo}
-use Rattle.sdb_domain.specs.Held.{Kept, items_kept, IsWhole}
+use Rattle.sdb_domain.specs.Held.{items_kept}
 use Rattle.sdb_domain.specs.Keyed.{back, unwound}
-use Rattle.sdb_domain.specs.Slots.{Slots, domains_shown, AccountKept, IsWholeAccount, IsSettled, account_at}
-use Rattle.sdb_domain.specs.Undo.{row_undone}
+use Rattle.sdb_domain.specs.Slots.{Slots, Domains, shown, domains_shown, count_shown, weight_shown, stays, AccountKept, IsWholeAccount, IsSettled, account_at}
+use Rattle.sdb_domain.specs.Undo.{Opening, last_undone, CanUndoLast}
 
 -- ---- which place a change is about
 
@@ -43,35 +43,71 @@ items_after old (Edit account domain item ops) = Some (edited (unwrap_or old [])
 -- ---- one slot
 
 -- a slot that is closed to edits, or left open
-abbrev pub closed : Bool → Kept → Slot
-closed true kept = Settled (items_kept kept)
-closed false kept = Open kept
+abbrev pub closed : Bool → Opening → Slot
+closed true opening = Settled (items_kept opening.kept)
+closed false opening = Open opening
 
--- slots as they were before a step on a row
-abbrev pub row_step_undone : Slots → List ℕ → Bool → RowWas → Option Slot → Slots
-row_step_undone slots name settled was None = slots
-row_step_undone slots name settled was (Some (Settled items)) = slots
-row_step_undone slots name settled was (Some (Open kept)) = set_value (is_at (text_cmp name)) slots (closed settled (row_undone kept was))
-row_step_undone slots name settled was (Some Dropped) = slots
+-- a slot as it was before the newest edit of its domain
+abbrev pub edit_undone : Bool → Slot → Slot
+edit_undone settled (Settled items) = Settled items
+edit_undone settled (Open opening) = closed settled (last_undone opening)
+edit_undone settled Dropped = Dropped
+
+-- what taking that edit back needs
+abbrev pub CanUndoEdit : Slot → Type 0
+CanUndoEdit (Settled items) = ⊥
+CanUndoEdit (Open opening) = CanUndoLast opening
+CanUndoEdit Dropped = ⊥
+
+-- what takes a step on a slot back
+abbrev pub TakesBack : Slot → Slot → Step → Type 0
+TakesBack old new (SlotWas was) = was ≡ Some old
+TakesBack old new (Row settled) = (edit_undone settled new ≡ old) × CanUndoEdit new
+
+-- what a step does to a slot
+pub record SlotSteps (old new : Slot) (items : Option ItemEntries) (step : Step) : Type 0 where
+  pub shows : shown new ≡ items
+  pub taken_back : TakesBack old new step
+
+-- what is told of a slot before a step and now
+pub record Weighs (moved : Moved) (change : Change) (old new : Option ItemEntries) : Type 0 where
+  pub name : moved.name ≡ domain_of change
+  pub was_count : moved.was.count ≡ count_shown old
+  pub was_weight : moved.was.weight ≡ weight_shown old
+  pub now_count : moved.now.count ≡ count_shown new
+  pub now_weight : moved.now.weight ≡ weight_shown new
+
+-- what a change does to its slot, where that is there
+abbrev pub SlotMoves : Slot → Slot → Change → Option Moved → Type 0
+SlotMoves old new change None = (new ≡ old) × (stays old change ≡ true)
+SlotMoves old new change (Some moved) = SlotSteps old new (items_after (shown old) change) moved.step × Weighs moved change (shown old) (shown new)
+
+-- what closing a slot does: `true` where it is a dropped one
+abbrev pub Closes : Slot → Slot → Bool → Type 0
+Closes old new true = (shown old ≡ None) × (new ≡ old)
+Closes old new false = (IsSome (shown old)) × (new ≡ Settled (unwrap_or (shown old) []))
+
+-- ---- the slots of an account
+
+-- slots as they were before the newest edit of that one
+abbrev pub row_step_undone : Slots → List ℕ → Bool → Option Slot → Slots
+row_step_undone slots name settled None = slots
+row_step_undone slots name settled (Some slot) = set_value (is_at (text_cmp name)) slots (edit_undone settled slot)
 
 -- slots as they were before a step
 abbrev pub step_undone : Slots → List ℕ → Step → Slots
-step_undone slots name Same = slots
 step_undone slots name (SlotWas was) = back slots name was
-step_undone slots name (Row settled was) = row_step_undone slots name settled was (found text_cmp slots name)
+step_undone slots name (Row settled) = row_step_undone slots name settled (found text_cmp slots name)
 
 -- the edit of a row can be taken back
-abbrev pub CanUndoRow : RowWas → Option Slot → Type 0
-CanUndoRow was None = ⊥
-CanUndoRow was (Some (Settled items)) = ⊥
-CanUndoRow was (Some (Open kept)) = IsWhole (row_undone kept was)
-CanUndoRow was (Some Dropped) = ⊥
+abbrev pub CanUndoRow : Option Slot → Type 0
+CanUndoRow None = ⊥
+CanUndoRow (Some slot) = CanUndoEdit slot
 
 -- what taking a step back needs
 abbrev pub CanUndoStep : Slots → List ℕ → Step → Type 0
-CanUndoStep slots name Same = Unit {0}
 CanUndoStep slots name (SlotWas was) = Unit {0}
-CanUndoStep slots name (Row settled was) = CanUndoRow was (found text_cmp slots name)
+CanUndoStep slots name (Row settled) = CanUndoRow (found text_cmp slots name)
 
 -- what a step on the slots does: under the name that stands for the domain, and nowhere else
 pub record StepsTo (old new : Slots) (name : List ℕ) (items : Option ItemEntries) (step : Step) : Type 0 where
@@ -79,6 +115,21 @@ pub record StepsTo (old new : Slots) (name : List ℕ) (items : Option ItemEntri
   pub taken_back : step_undone new name step ≡ old
   pub can : CanUndoStep new name step
   pub others : (q : List ℕ) → is_at (text_cmp q) name ≡ false → found text_cmp new q ≡ found text_cmp old q
+
+-- the domains after a change, in the list of those of its account
+abbrev pub changed : Domains → Change → Domains
+changed domains change = placed text_cmp domains (domain_of change) (items_after (found text_cmp domains (domain_of change)) change)
+
+-- a step of a change on the slots, with what its slot shows
+pub record SlotsStep (old new : Slots) (change : Change) (moved : Moved) : Type 0 where
+  pub rises : IsRising text_cmp new
+  pub steps : StepsTo old new (domain_of change) (items_after (found text_cmp (domains_shown old) (domain_of change)) change) moved.step
+  pub weighs : Weighs moved change (found text_cmp (domains_shown old) (domain_of change)) (found text_cmp (domains_shown new) (domain_of change))
+
+-- what a change does to the slots; `None` where it changes nothing
+abbrev pub SlotsMove : Slots → Slots → Change → Option Moved → Type 0
+SlotsMove old new change None = (new ≡ old) × (domains_shown old ≡ changed (domains_shown old) change)
+SlotsMove old new change (Some moved) = SlotsStep old new change moved
 
 -- what closing a slot does: every domain stays, and nothing else changes
 pub record Settles (old new : Slots) (name : List ℕ) : Type 0 where
@@ -98,14 +149,19 @@ pub record CanUndoAccount (account : AccountKept) (undo : Undo) : Type 0 where
   pub whole : IsWholeAccount (account_undone account undo)
   pub step : CanUndoStep account.slots undo.name undo.step
 
--- what a change does to its account
+-- a step of a change on its account
 pub record AccountSteps (old new : AccountKept) (change : Change) (undo : Undo) : Type 0 where
-  pub made : domains_shown new.slots ≡ placed text_cmp (domains_shown old.slots) (domain_of change) (items_after (found text_cmp (domains_shown old.slots) (domain_of change)) change)
+  pub made : domains_shown new.slots ≡ changed (domains_shown old.slots) change
   pub taken_back : account_undone new undo ≡ old
   pub account : undo.account ≡ account_of change
   pub name : undo.name ≡ domain_of change
   pub can : CanUndoAccount new undo
   pub others : (q : List ℕ) → is_at (text_cmp q) (domain_of change) ≡ false → found text_cmp new.slots q ≡ found text_cmp old.slots q
+
+-- what a change does to its account; `None` where it changes nothing
+abbrev pub AccountMoves : AccountKept → AccountKept → Change → Option Undo → Type 0
+AccountMoves old new change None = (new ≡ old) × (domains_shown old.slots ≡ changed (domains_shown old.slots) change)
+AccountMoves old new change (Some undo) = AccountSteps old new change undo
 
 -- ---- all accounts
 

@@ -1,5 +1,5 @@
 -- The sums that a domain keeps beside its rows.
-use Rattle.std.specs.Prelude.{ℕ, ◌+◌, ◌-◌, List, [], ◌∷◌, length}
+use Rattle.std.specs.Prelude.{ℕ, ◌+◌, ◌-◌, ◌^◌, ◌≤◌, List, [], ◌∷◌, length}
 use Rattle.sdb_pairs.specs.declared.pair.Pair.{Pair}
 use Rattle.sdb_domain.specs.declared.sums.Sums.{Sums}
 use Rattle.sdb_domain.specs.Weights.{item_weight, value_bytes_of}
@@ -16,9 +16,17 @@ row_sums (name, p ∷ ps) = record { items = 1; item_bytes = length name; pairs 
 -- the sums once `new` stands in the place of `old`
 abbrev pub exchanged : Sums → Sums → Sums → Sums
 exchanged sums old new = record {
-  items = sums.items + new.items - old.items;
-  item_bytes = sums.item_bytes + new.item_bytes - old.item_bytes;
-  pairs = sums.pairs + new.pairs - old.pairs;
-  value_bytes = sums.value_bytes + new.value_bytes - old.value_bytes;
-  weight = sums.weight + new.weight - old.weight;
+  items = sums.items - old.items + new.items;
+  item_bytes = sums.item_bytes - old.item_bytes + new.item_bytes;
+  pairs = sums.pairs - old.pairs + new.pairs;
+  value_bytes = sums.value_bytes - old.value_bytes + new.value_bytes;
+  weight = sums.weight - old.weight + new.weight;
 }
+
+-- one of the sums reaches 2^64
+pub data SomeReachesLimit (sums : Sums) : Type 0 where
+  items : 2 ^ 64 ≤ sums.items → SomeReachesLimit sums
+  item_bytes : 2 ^ 64 ≤ sums.item_bytes → SomeReachesLimit sums
+  pairs : 2 ^ 64 ≤ sums.pairs → SomeReachesLimit sums
+  value_bytes : 2 ^ 64 ≤ sums.value_bytes → SomeReachesLimit sums
+  weight : 2 ^ 64 ≤ sums.weight → SomeReachesLimit sums

@@ -26,6 +26,10 @@ domains_of accounts account = filter (λ domain. domain.0.0 == account) accounts
 abbrev pub account_weight : DomainEntries → ℕ → ℕ
 account_weight accounts account = sum_by (λ domain. domain_weight domain.1) (domains_of accounts account)
 
+-- the number of pairs of a domain
+abbrev pub pair_count : ItemEntries → ℕ
+pair_count items = sum_by (λ item. length item.1) items
+
 -- the bytes of the values of an item
 abbrev pub value_bytes_of : List Pair → ℕ
 value_bytes_of pairs = sum_by (λ p. length p.value) pairs

@@ -1,18 +1,16 @@
 // The domains of one account, and one step of a change there.
-ghost use Rattle.std.specs.Prelude.{◌≡◌, ◌+◌, ◌-◌, ◌<◌, IfOk, OnErr, length, IfSome, option_map, false, List, ℕ};
+ghost use Rattle.std.specs.Prelude.{◌≡◌, ◌+◌, ◌-◌, ◌≤◌, ◌^◌, ◌⊎◌, IfOk, OnErr, length, IfSome, IfNone, option_map};
 ghost use Rattle.std.specs.List.{sum_by};
 ghost use Rattle.std.specs.Option.{option_copied};
 ghost use Rattle.sdb_domain.specs.LookUps.{least_after};
-ghost use Rattle.std.specs.BTreeMap.{is_at};
 ghost use Rattle.sdb_base.specs.Texts.{text_cmp};
-ghost use Rattle.sdb_base.specs.Entries.{found, IsRising};
-ghost use Rattle.sdb_domain.specs.Slots.{domains_shown, shown, count_shown, weight_shown, weight_of_domain, IsSettled};
-ghost use Rattle.sdb_domain.specs.Steps.{account_of, domain_of, items_after, StepsTo, Settles};
-ghost use Rattle.sdb_domain.specs.Weights.{domain_weight};
+ghost use Rattle.sdb_base.specs.Entries.{found};
+ghost use Rattle.sdb_domain.specs.Slots.{domains_shown, shown, weight_of_domain, IsSettled};
+ghost use Rattle.sdb_domain.specs.Steps.{account_of, Settles};
 
 use crate::domain::Domain;
 use crate::keyed::Keyed;
-use crate::slot::{Slot, Step, drop_at, edit, make, settle, shows, undo};
+use crate::slot::{Moved, Shown, Slot, Step, settle, shows, step_slots, undo};
 use crate::sums::moved;
 use sdb_base::{AccountId, OutOfMemory, Text};
 use sdb_pairs::Change;
@@ -20,7 +18,7 @@ use std::alloc::Global;
 use std::marker::Model;
 
 // The domains of one account, their number and their weight.
-#[derive(Debug, Drop)]
+#[derive(Drop)]
 pub(crate) struct Account {
     slots: Keyed<Slot>,
     count: u64,
@@ -38,7 +36,7 @@ impl Model for Account {
 }
 
 // What takes a change of an account back.
-#[derive(Debug, Drop)]
+#[derive(Drop)]
 pub(crate) struct Undo {
     pub(crate) account: AccountId,
     name: Text,
@@ -49,7 +47,7 @@ pub(crate) struct Undo {
 
 impl Account {
     ghost use Rattle.sdb_domain.specs.Slots.{no_account, IsWholeAccount};
-    ghost use Rattle.sdb_domain.specs.Steps.{AccountSteps, CanUndoAccount, account_undone};
+    ghost use Rattle.sdb_domain.specs.Steps.{AccountMoves, CanUndoAccount, account_undone};
 
     pub(crate) fn new(alloc: Global) -> Account
         ensures { result ≡ no_account }
@@ -61,22 +59,26 @@ impl Account {
         }
     }
 
-    // Applies a change, and gives what takes it back.
-    pub(crate) fn step(&mut self, alloc: Global, change: &Change) -> Result<Undo, OutOfMemory>
-        ensures ok { IfOk result (λ undo. AccountSteps self.old self.new change.now undo) }
+    // Applies a change, and gives what takes it back. `None` where it changes nothing.
+    pub(crate) fn step(
+        &mut self,
+        alloc: Global,
+        change: &Change,
+    ) -> Result<Option<Undo>, OutOfMemory>
+        ensures ok { IfOk result (λ undo. AccountMoves self.old self.new change.now undo) }
         ensures err { OnErr result (self.new ≡ self.old) }
     {
-        let domain = domain_name(change);
-        let name = domain.copy(alloc)?;
-        let (old_count, old_weight) = weigh(&self.slots, domain);
-        let step = step_slots(&mut self.slots, alloc, change)?;
-        let (new_count, new_weight) = weigh(&self.slots, domain);
-        let Some((count, weight)) = sums_after(
-            (self.count, self.weight),
-            (old_count, old_weight),
-            (new_count, new_weight),
-        ) else {
-            undo(&mut self.slots, domain, step);
+        let Some(moved) = step_slots(&mut self.slots, alloc, change)? else {
+            return Ok(None);
+        };
+        let Moved {
+            name,
+            step,
+            was,
+            now,
+        } = moved;
+        let Some((count, weight)) = sums_after((self.count, self.weight), was, now) else {
+            undo(&mut self.slots, &name, step);
             return Err(OutOfMemory);
         };
         let undo = Undo {
@@ -88,7 +90,7 @@ impl Account {
         };
         self.count = count;
         self.weight = weight;
-        Ok(undo)
+        Ok(Some(undo))
     }
 
     // The domain of that name. No slot is open.
@@ -127,7 +129,7 @@ impl Account {
     pub(crate) fn settle(&mut self, was: &Undo)
         ensures { Settles self.old.slots self.new.slots was.now.name }
     {
-        settle(&mut self.slots, &was.name, &was.step);
+        settle(&mut self.slots, &was.name);
     }
 
     // Takes a change back.
@@ -154,16 +156,20 @@ fn settled_domain(slot: &Slot) -> Option<&Domain>
 {
     match slot {
         Slot::Settled(domain) => Some(domain),
-        Slot::Open(_) => None,
-        Slot::Dropped => None,
+        Slot::Open(_) => unreachable!(),
+        Slot::Dropped => unreachable!(),
     }
 }
 
-fn sums_after(sums: (u64, u64), old: (u64, u64), new: (u64, u64)) -> Option<(u64, u64)>
-    ensures count { IfSome result (λ r. r.0 ≡ sums.0 + new.0 - old.0) }
-    ensures weight { IfSome result (λ r. r.1 ≡ sums.1 + new.1 - old.1) }
+// The number and the weight of the domains, once a slot shows `now`. `None` where one reaches 2^64.
+fn sums_after(sums: (u64, u64), was: Shown, now: Shown) -> Option<(u64, u64)>
+    ensures count { IfSome result (λ r. r.0 ≡ sums.0 - was.count + now.count) }
+    ensures weight { IfSome result (λ r. r.1 ≡ sums.1 - was.weight + now.weight) }
+    ensures none { IfNone result ((2 ^ 64 ≤ sums.0 - was.count + now.count) ⊎ (2 ^ 64 ≤ sums.1 - was.weight + now.weight)) }
 {
-    Some((moved(sums.0, old.0, new.0)?, moved(sums.1, old.1, new.1)?))
+    let count = moved(sums.0, was.count, now.count)?;
+    let weight = moved(sums.1, was.weight, now.weight)?;
+    Some((count, weight))
 }
 
 pub(crate) fn account_id(change: &Change) -> AccountId
@@ -173,49 +179,5 @@ pub(crate) fn account_id(change: &Change) -> AccountId
         Change::MakeDomain(account, _) => *account,
         Change::DropDomain(account, _) => *account,
         Change::Edit(account, _, _, _) => *account,
-    }
-}
-
-fn domain_name(change: &Change) -> &Text
-    ensures { result.now ≡ domain_of change.now }
-{
-    match change {
-        Change::MakeDomain(_, domain) => domain,
-        Change::DropDomain(_, domain) => domain,
-        Change::Edit(_, domain, _, _) => domain,
-    }
-}
-
-fn step_slots(slots: &mut Keyed<Slot>, alloc: Global, change: &Change) -> Result<Step, OutOfMemory>
-    ensures ok { IfOk result (λ step. StepsTo slots.old slots.new (domain_of change.now) (items_after (found text_cmp (domains_shown slots.old) (domain_of change.now)) change.now) step) }
-    ensures err { OnErr result (slots.new ≡ slots.old) }
-{
-    match change {
-        Change::MakeDomain(_, domain) => make(slots, alloc, domain),
-        Change::DropDomain(_, domain) => Ok(drop_at(slots, domain)),
-        Change::Edit(_, domain, item, ops) => edit(slots, alloc, domain, item, ops),
-    }
-}
-
-// Whether the domain is there, as 1 or 0, and its weight.
-fn weigh(slots: &Keyed<Slot>, name: &Text) -> (u64, u64)
-    ensures count { result.0 ≡ count_shown (found text_cmp (domains_shown slots.now) name.now) }
-    ensures weight { result.1 ≡ weight_shown (found text_cmp (domains_shown slots.now) name.now) }
-    ensures rising { IsRising text_cmp slots.now }
-{
-    match slots.get(name) {
-        Some(slot) => weigh_slot(slot),
-        None => (0, 0),
-    }
-}
-
-fn weigh_slot(slot: &Slot) -> (u64, u64)
-    ensures count { result.0 ≡ count_shown (shown slot.now) }
-    ensures weight { result.1 ≡ weight_shown (shown slot.now) }
-{
-    match slot {
-        Slot::Settled(domain) => (1, domain.weight()),
-        Slot::Open(held) => (1, held.weight()),
-        Slot::Dropped => (0, 0),
     }
 }

@@ -11,15 +11,15 @@ use crate::domain::Domain;
 use sdb_base::{AccountId, OutOfMemory, Text};
 use sdb_pairs::{Change, Changes};
 use std::alloc::Global;
-use std::array;
 use std::marker::Model;
+use std::{array, fmt};
 
 // How many accounts there are.
 const ACCOUNTS: usize = 16;
 
 /// The domains of all accounts, with their items. They come to be by changes alone. Looking up takes no
 /// memory.
-#[derive(Debug, Drop)]
+#[derive(Drop)]
 pub struct Accounts {
     alloc: Global,
     accounts: [Account; ACCOUNTS],
@@ -34,6 +34,13 @@ impl Model for Accounts {
     ghost view = { λ it. accounts_shown it.accounts };
 
     ghost invariant = { λ it. AreKept it.accounts };
+}
+
+// Items are seen by `item` and `scan` of a domain alone.
+impl fmt::Debug for Accounts {
+    fn fmt<W: fmt::Write>(&self, f: &mut fmt::Formatter<W>) -> fmt::Result {
+        f.debug_struct("Accounts").finish_non_exhaustive()
+    }
 }
 
 ghost use Rattle.sdb_domain.specs.declared.account.Undo.{Undo as Done};
@@ -144,10 +151,14 @@ fn step(
     ensures ok { OnOk result (accounts_shown accounts.new ≡ after_change (accounts_shown accounts.old) change.now) }
     ensures logs { Logs accounts.old log.old.items accounts.new log.new.items }
 {
-    log.reserve(1)?;
     let place = index_of(account_id(change));
-    let undo = accounts[place].step(alloc, change)?;
-    log.push(undo)?;
+    let Some(undo) = accounts[place].step(alloc, change)? else {
+        return Ok(());
+    };
+    if let Err(full) = log.push(undo) {
+        accounts[place].undo(full.value);
+        return Err(OutOfMemory);
+    }
     Ok(())
 }
 

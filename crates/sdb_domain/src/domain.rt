@@ -4,41 +4,56 @@ ghost use Rattle.sdb_pairs.specs.declared.pair.Pair.{Pair};
 ghost use Rattle.std.specs.Option.{option_copied};
 ghost use Rattle.sdb_base.specs.Texts.{text_cmp};
 ghost use Rattle.sdb_base.specs.Entries.{found};
-ghost use Rattle.sdb_domain.specs.Held.{items_kept};
+ghost use Rattle.sdb_pairs.specs.Accounts.{AreItems};
+ghost use Rattle.sdb_domain.specs.Held.{items_kept, IsClean};
 ghost use Rattle.sdb_domain.specs.LookUps.{least_after, held_text};
 ghost use Rattle.sdb_domain.specs.Metadata.{Describes};
-ghost use Rattle.sdb_domain.specs.Weights.{domain_weight};
+ghost use Rattle.sdb_domain.specs.Weights.{domain_weight, pair_count};
 
 use crate::held::Held;
 use crate::metadata::Metadata;
 use sdb_base::{Steps, Text};
 use sdb_pairs::Item;
+use std::fmt;
 use std::marker::Model;
 
-/// The items of one domain. Looking up takes no memory.
-#[derive(Debug, Drop)]
+/// The items of one domain, strictly rising by name, each with at least one pair. Looking up takes no memory.
+#[derive(Drop)]
 pub struct Domain {
     held: Held,
 }
 
 impl Model for Domain {
     ghost use Rattle.sdb_pairs.specs.Accounts.{ItemEntries};
-    ghost use Rattle.sdb_domain.specs.Held.{items_kept};
+    ghost use Rattle.sdb_domain.specs.Held.{items_kept, IsInOrder};
 
     ghost Value = { ItemEntries };
 
     ghost view = { λ it. items_kept it.held };
+
+    ghost invariant = { λ it. IsInOrder it.held };
+}
+
+// The items are seen by `item` and `scan` alone.
+impl fmt::Debug for Domain {
+    fn fmt<W: fmt::Write>(&self, f: &mut fmt::Formatter<W>) -> fmt::Result {
+        f.debug_struct("Domain").finish_non_exhaustive()
+    }
 }
 
 impl Domain {
+    // Nothing is hidden in it.
     pub(crate) fn of(held: Held) -> Domain
+        requires { IsClean held }
         ensures { result ≡ items_kept held }
     {
+        let _sums = held.sums();
         Domain { held }
     }
 
     pub(crate) fn into_held(self) -> Held
-        ensures { items_kept result ≡ self }
+        ensures same { items_kept result ≡ self }
+        ensures clean { IsClean result }
     {
         let Domain { held } = self;
         held
@@ -48,6 +63,7 @@ impl Domain {
     pub fn item<L>(&self, name: &Text, items: &mut Steps<L>) -> Option<&Item>
         ensures found { option_map (λ i. i.now) result ≡ found text_cmp self.now name.now }
         ensures ticks { items.new ≡ items.old + 1 }
+        ensures in_order { AreItems self.now }
     {
         items.tick();
         self.held.item(name)
@@ -57,6 +73,7 @@ impl Domain {
     pub fn scan<L>(&self, after: Option<&Text>, items: &mut Steps<L>) -> Option<(&Text, &Item)>
         ensures item { option_map {U = List ℕ × List Pair} (λ p. (p.0.now, p.1.now)) result ≡ least_after self.now (option_copied after.entry) }
         ensures ticks { items.new ≡ items.old + 1 }
+        ensures in_order { AreItems self.now }
     {
         items.tick();
         self.held.scan(after)
@@ -70,9 +87,17 @@ impl Domain {
     }
 
     pub fn item_count(&self) -> u64
-        ensures { result ≡ length self.now }
+        ensures count { result ≡ length self.now }
+        ensures in_order { AreItems self.now }
     {
         self.held.item_count()
+    }
+
+    /// The number of pairs of all items.
+    pub fn pair_count(&self) -> u64
+        ensures { result ≡ pair_count self.now }
+    {
+        self.held.pair_count()
     }
 
     /// The weight of the items: each weighs the bytes of its name and 64, and each pair the bytes of its
@@ -83,7 +108,7 @@ impl Domain {
         self.held.weight()
     }
 
-    /// Numbers that describe the domain, in one pass over its attribute names.
+    /// Numbers that describe the domain, which are kept as sums.
     pub fn metadata(&self) -> Metadata
         ensures { Describes self.now result }
     {

@@ -9,6 +9,7 @@ mod keyed;
 mod laws;
 mod metadata;
 mod names;
+mod opened;
 mod slot;
 mod sums;
 
@@ -16,6 +17,7 @@ pub use accounts::Accounts;
 pub use domain::Domain;
 pub use laws::walks_give_all;
 pub use metadata::Metadata;
+pub use sums::item_weight;
 
 #[cfg(test)]
 mod tests;

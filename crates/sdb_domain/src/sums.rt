@@ -1,23 +1,47 @@
 // Sums over the items of a domain.
-ghost use Rattle.std.specs.Prelude.{◌≡◌, ◌+◌, ◌-◌, IfSome};
+ghost use Rattle.std.specs.Prelude.{◌≡◌, ◌+◌, ◌-◌, ◌<◌, ◌≤◌, ◌^◌, IfSome, IfNone, length};
+ghost use Rattle.std.specs.Option.{SomeIff};
 ghost use Rattle.std.specs.List.{sum_by};
-ghost use Rattle.sdb_domain.specs.Weights.{pair_weight, value_bytes_of};
-ghost use Rattle.sdb_domain.specs.Sums.{row_sums, exchanged};
+ghost use Rattle.sdb_domain.specs.Weights.{item_weight, pair_weight, value_bytes_of};
+ghost use Rattle.sdb_domain.specs.Sums.{row_sums, exchanged, SomeReachesLimit};
 
 use sdb_base::Text;
-use sdb_pairs::{Item, Pair};
+use sdb_pairs::Pair;
 
 // What a weight adds for each item and for each pair.
 const OVERHEAD: u64 = 64;
 
 // Sums over the items of a domain.
-#[derive(Clone, Copy, Debug)]
+#[derive(Clone, Copy)]
 pub(crate) struct Sums {
     pub(crate) items: u64,
     pub(crate) item_bytes: u64,
     pub(crate) pairs: u64,
     pub(crate) value_bytes: u64,
     pub(crate) weight: u64,
+}
+
+// The bytes of the values of some pairs, and their weight.
+#[derive(Clone, Copy)]
+struct PairSums {
+    value_bytes: u64,
+    weight: u64,
+}
+
+/// The weight of an item of these pairs: the bytes of its name and 64, and for each pair the bytes of its
+/// name and value and 64. `None` where that reaches 2^64.
+pub fn item_weight(name: &Text, pairs: &[Pair]) -> Option<u64>
+    ensures { SomeIff result (item_weight (name.now, pairs.now) < 2 ^ 64) (item_weight (name.now, pairs.now)) }
+{
+    named_weight(name, sum_pairs(pairs)?.weight)
+}
+
+// The weight of an item whose pairs have that weight.
+fn named_weight(name: &Text, pairs: u64) -> Option<u64>
+    ensures { SomeIff result (length name.now + 64 + pairs < 2 ^ 64) (length name.now + 64 + pairs) }
+{
+    let bytes = name.as_str().len() as u64;
+    bytes.checked_add(OVERHEAD)?.checked_add(pairs)
 }
 
 impl Sums {
@@ -35,29 +59,28 @@ impl Sums {
         }
     }
 
-    // What one row adds. `None` where that isn't below 2^64.
-    pub(crate) fn of_row(name: &Text, item: &Item) -> Option<Sums>
-        ensures { IfSome result (λ sums. sums ≡ row_sums (name.now, item.now)) }
+    // What one row adds. `None` where its weight reaches 2^64.
+    pub(crate) fn of_row(name: &Text, pairs: &[Pair]) -> Option<Sums>
+        ensures value { IfSome result (λ sums. sums ≡ row_sums (name.now, pairs.now)) }
+        ensures none { IfNone result (2 ^ 64 ≤ item_weight (name.now, pairs.now)) }
     {
-        let pairs = item.pairs();
         if pairs.is_empty() {
             return Some(Sums::none());
         }
-        let item_bytes = name.as_str().len() as u64;
+        let sums = sum_pairs(pairs)?;
         Some(Sums {
             items: 1,
-            item_bytes,
+            item_bytes: name.as_str().len() as u64,
             pairs: pairs.len() as u64,
-            value_bytes: value_bytes(pairs)?,
-            weight: item_bytes
-                .checked_add(OVERHEAD)?
-                .checked_add(weight_of(pairs)?)?,
+            value_bytes: sums.value_bytes,
+            weight: named_weight(name, sums.weight)?,
         })
     }
 
-    // The sums once `new` stands in the place of `old`. `None` where a sum isn't below 2^64.
+    // The sums once `new` stands in the place of `old`. `None` where a sum reaches 2^64.
     pub(crate) fn exchange(&self, old: &Sums, new: &Sums) -> Option<Sums>
-        ensures { IfSome result (λ sums. sums ≡ exchanged self.now old.now new.now) }
+        ensures value { IfSome result (λ sums. sums ≡ exchanged self.now old.now new.now) }
+        ensures none { IfNone result (SomeReachesLimit (exchanged self.now old.now new.now)) }
     {
         Some(Sums {
             items: moved(self.items, old.items, new.items)?,
@@ -69,32 +92,31 @@ impl Sums {
     }
 }
 
-// A sum once `new` stands in the place of `old`.
+// A sum once `new` stands in the place of `old`. `None` where it reaches 2^64.
 pub(crate) fn moved(sum: u64, old: u64, new: u64) -> Option<u64>
-    ensures { IfSome result (λ n. n ≡ sum + new - old) }
+    ensures { SomeIff result (sum - old + new < 2 ^ 64) (sum - old + new) }
 {
-    Some(sum.checked_add(new)?.saturating_sub(old))
+    sum.saturating_sub(old).checked_add(new)
 }
 
-fn value_bytes(pairs: &[Pair]) -> Option<u64>
-    ensures { IfSome result (λ n. n ≡ value_bytes_of pairs.now) }
+// `None` where the weight reaches 2^64.
+fn sum_pairs(pairs: &[Pair]) -> Option<PairSums>
+    ensures value { IfSome result (λ sums. sums.value_bytes ≡ value_bytes_of pairs.now) }
+    ensures weight { IfSome result (λ sums. sums.weight ≡ sum_by pair_weight pairs.now) }
+    ensures none { IfNone result (2 ^ 64 ≤ sum_by pair_weight pairs.now) }
 {
-    let mut bytes: u64 = 0;
-    for pair in pairs {
-        bytes = bytes.checked_add(pair.value.as_str().len() as u64)?;
-    }
-    Some(bytes)
-}
-
-fn weight_of(pairs: &[Pair]) -> Option<u64>
-    ensures { IfSome result (λ n. n ≡ sum_by pair_weight pairs.now) }
-{
+    let mut value_bytes: u64 = 0;
     let mut weight: u64 = 0;
     for pair in pairs {
-        let bytes = (pair.name.as_str().len() as u64).checked_add(
-            pair.value.as_str().len() as u64,
-        )?;
-        weight = weight.checked_add(bytes.checked_add(OVERHEAD)?)?;
+        let value = pair.value.as_str().len() as u64;
+        let bytes = (pair.name.as_str().len() as u64)
+            .checked_add(value)?
+            .checked_add(OVERHEAD)?;
+        weight = weight.checked_add(bytes)?;
+        value_bytes += value;
     }
-    Some(weight)
+    Some(PairSums {
+        value_bytes,
+        weight,
+    })
 }

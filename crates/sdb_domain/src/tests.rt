@@ -195,6 +195,73 @@ fn one_change_that_fails_leaves_none(rt: HostRuntime) -> Result<(), Fail> {
     Ok(())
 }
 
+// A name stays counted while one of its values is left.
+#[test]
+fn names_are_counted_by_items(rt: HostRuntime) -> Result<(), Fail> {
+    let alloc = rt.alloc();
+    let mut accounts = Accounts::new(alloc);
+    let pairs = [("a", "1"), ("a", "2"), ("bb", "1")];
+    for item in ["i", "j"] {
+        apply(
+            &mut accounts,
+            alloc,
+            add(alloc, FIRST, "books", item, &pairs)?,
+        )?;
+    }
+    let drops = [("i", Some("1")), ("i", None), ("j", Some("2")), ("j", None)];
+    let mut names = Vec::new(alloc);
+    for (item, value) in drops {
+        apply(&mut accounts, alloc, drop_a(alloc, item, value)?)?;
+        let Some(books) = accounts.domain(FIRST, &text(alloc, "books")?) else {
+            return Err("the domain is missing")?;
+        };
+        let numbers = books.metadata();
+        names.push((numbers.names, numbers.name_bytes))?;
+    }
+    assert_eq!(rt;
+        names.as_slice(),
+        [(2, 3), (2, 3), (2, 3), (1, 2)].as_slice()
+    );
+    Ok(())
+}
+
+// Drops one value of the name `a` of an item, or all.
+fn drop_a(alloc: Global, item: &str, value: Option<&str>) -> Result<Change, OutOfMemory> {
+    let name = text(alloc, "a")?;
+    let mut ops = Ops::new(alloc);
+    match value {
+        Some(value) => ops.push(Op::DropPair(Pair {
+            name,
+            value: text(alloc, value)?,
+        }))?,
+        None => ops.push(Op::DropName(name))?,
+    }
+    Ok(Change::Edit(FIRST, text(alloc, "books")?, text(alloc, item)?, ops))
+}
+
+#[test]
+fn weights_and_printed_forms(rt: HostRuntime) -> Result<(), Fail> {
+    let alloc = rt.alloc();
+    let mut accounts = Accounts::new(alloc);
+    let pairs = [("title", "Emma"), ("year", "1815")];
+    apply(
+        &mut accounts,
+        alloc,
+        add(alloc, FIRST, "books", "b1", &pairs)?,
+    )?;
+    let mut items = Steps::<Looked>::new();
+    let Some(books) = accounts.domain(FIRST, &text(alloc, "books")?) else {
+        return Err("the domain is missing")?;
+    };
+    let Some((name, item)) = books.scan(None, &mut items) else {
+        return Err("an item is missing")?;
+    };
+    assert_eq!(rt; item_weight(name, item.pairs()), Some(66 + 73 + 72));
+    let printed = format!(in alloc; "{books:?} {accounts:?}")?;
+    assert_eq!(rt; printed.as_str(), "Domain { .. } Accounts { .. }");
+    Ok(())
+}
+
 #[test]
 fn counts_are_those_of_a_plain_count(rt: HostRuntime) -> Result<(), Fail> {
     let alloc = rt.alloc();
@@ -235,6 +302,7 @@ fn counts_are_those_of_a_plain_count(rt: HostRuntime) -> Result<(), Fail> {
         }
     );
     assert_eq!(rt; books.item_count(), 500);
+    assert_eq!(rt; books.pair_count(), 1000);
     let weight: u64 = 500 * (8 + 64) + 500 * (4 + 1 + 64) + 500 * (5 + 64) + digits;
     assert_eq!(rt; books.weight(), weight);
     assert_eq!(rt; accounts.weight(FIRST), weight);

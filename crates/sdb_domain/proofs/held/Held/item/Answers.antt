@@ -1,18 +1,13 @@
-use Rattle.std.proofs.Common.{◌∙◌, ap, Some, None}
+use Rattle.std.proofs.Common.{◌∙◌, sym, ap, subst}
 use Rattle.sdb_base.specs.Texts.{text_cmp}
-use Rattle.sdb_pairs.specs.Changes.{item_with}
 use Rattle.sdb_base.specs.Entries.{found}
-use Rattle.sdb_domain.specs.Held.{Kept}
-use Rattle.sdb_domain.specs.Keyed.{seen}
-use Rattle.sdb_domain.proofs.ItemSums.{item_found}
+use Rattle.sdb_domain.specs.Held.{Kept, items_kept, IsClean}
+use Rattle.sdb_domain.proofs.WholeLemmas.{clean_rows}
 use Rattle.sdb_domain.proofs.held.Held.item.Goals as goal
-
-pub returns-in_err-item : goal.returns-in_err-item
-returns-in_err-item c =
-    rw c.from_residual.ensures
-    (item_found c.self.inside.rows c.args.name.now None c.get.ensures.rising c.in_err-item.ensures.value ∙ ap (λ (k : Kept). found text_cmp (seen item_with k.rows) c.args.name.now) c.self.view_is)
 
 pub returns : goal.returns
 returns c =
-    c.shown_item.ensures
-    ∙ item_found c.self.inside.rows c.args.name.now (Some c.in_ok-item.item.now) c.get.ensures.rising c.in_ok-item.ensures.value ∙ ap (λ (k : Kept). found text_cmp (seen item_with k.rows) c.args.name.now) c.self.view_is
+    let kept : Kept = record { rows = c.self.inside.rows; names = c.self.inside.names; sums = c.self.inside.sums } in
+    c.get.ensures.value
+    ∙ ap (λ rows. found text_cmp rows c.args.name.now) (clean_rows kept c.self.invariant (subst IsClean (sym c.self.view_is) c.requires))
+    ∙ ap (λ (k : Kept). found text_cmp (items_kept k) c.args.name.now) c.self.view_is

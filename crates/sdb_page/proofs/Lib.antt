@@ -1,0 +1,4 @@
+pub mod FitLemmas
+pub mod FrontLemmas
+pub mod PageLemmas
+pub mod SpotLemmas

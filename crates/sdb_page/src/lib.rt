@@ -1,0 +1,6 @@
+//! The order of a Select's items, and how its answer is cut into pages.
+#![tactic(auto)]
+
+mod laws;
+
+pub use laws::{answers_rise, items_fit_on_a_page, pages_are_longest, pages_join};
