@@ -1,5 +1,5 @@
 -- The order of spots, and that an answer stands in it.
-use Rattle.std.proofs.Common.{◌≡◌, Bool, List, [], ◌∷◌, filter, fold, Option, Some, None, Less, Equal, refl, sym}
+use Rattle.std.proofs.Common.{◌≡◌, Bool, List, [], ◌∷◌, filter, fold, Option, Some, None, Ordering, Less, Equal, Greater, refl, sym}
 use Rattle.std.specs.Cmp.{IsTotalOrder}
 use Rattle.std.specs.Ordering.{ordering_reverse}
 use Rattle.std.specs.List.Sorted.{IsStrictlySortedBy}

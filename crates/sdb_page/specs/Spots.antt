@@ -1,5 +1,5 @@
 -- Where the items of a domain stand in the order of a Select.
-use Rattle.std.specs.Prelude.{ℕ, ◌+◌, ◌-◌, Bool, true, false, List, [], length, filter, fold, slice_get, sum_by, Option, Some, None, option_map, bytes_eq}
+use Rattle.std.specs.Prelude.{ℕ, ◌+◌, ◌-◌, Bool, true, false, List, [], length, filter, fold, slice_get, sum_by, Option, Some, None, option_map, bytes_eq, if◌then◌else◌}
 use Rattle.std.specs.declared.cmp.Ordering.{Ordering}
 use Rattle.std.specs.declared.cmp.Ordering.TheVariants.{Less, Greater}
 use Rattle.std.specs.List.{list_any}
@@ -89,6 +89,10 @@ Row = Spot × Item
 abbrev pub with_row : List Row → Option Spot → Item → List Row
 with_row rows None item = rows
 with_row rows (Some spot) item = insert_entry spot_cmp rows spot item
+
+-- the same, where the item passes
+abbrev pub with_item : (Item → Bool) → Option Sort → List Row → Item → List Row
+with_item passes sort rows item = if passes item then with_row rows (spot_of sort item) item else rows
 
 -- items under their spots, in order
 abbrev pub rows_of : Option Sort → ItemEntries → List Row
