@@ -66,6 +66,16 @@ IsWrite (Delete domain item expect) = Unit {0}
 IsWrite (BatchDelete domain items) = NamesApart (map drop_write items)
 IsWrite _ = ⊥
 
+-- one of the six requests that write
+abbrev pub IsWriteRequest : Request → Type 0
+IsWriteRequest (CreateDomain domain) = Unit {0}
+IsWriteRequest (DeleteDomain domain) = Unit {0}
+IsWriteRequest (Put domain item expect) = Unit {0}
+IsWriteRequest (BatchPut domain items) = Unit {0}
+IsWriteRequest (Delete domain item expect) = Unit {0}
+IsWriteRequest (BatchDelete domain items) = Unit {0}
+IsWriteRequest _ = ⊥
+
 -- a write that is no batch
 abbrev pub IsSingleWrite : Request → Type 0
 IsSingleWrite (CreateDomain domain) = Unit {0}
@@ -74,7 +84,7 @@ IsSingleWrite (Put domain item expect) = Unit {0}
 IsSingleWrite (Delete domain item expect) = Unit {0}
 IsSingleWrite _ = ⊥
 
--- the refusals of a write that is no batch, and want of memory
+-- the refusals of a write, and want of memory
 abbrev pub IsWriteRefusal : Refusal → Type 0
 IsWriteRefusal NoSuchDomain = Unit {0}
 IsWriteRefusal ConditionalCheckFailed = Unit {0}

@@ -1,13 +1,14 @@
 // What a write does, or why it is refused.
-ghost use Rattle.std.specs.Prelude.{◌≡◌, [], ◌∷◌, Some, IfOk, IfErr};
+ghost use Rattle.std.specs.Prelude.{◌≡◌, [], ◌∷◌, map, IfOk, IfErr};
 ghost use Rattle.std.specs.Option.{option_copied};
 ghost use Rattle.sdb_tables.specs.Answers.{Answers};
-ghost use Rattle.sdb_write.specs.Changes.{decision};
-ghost use Rattle.sdb_write.specs.Writes.{IsSingleWrite, IsWriteRefusal};
+ghost use Rattle.sdb_write.specs.Changes.{decision, edit_of};
+ghost use Rattle.sdb_write.specs.ItemWrites.{put_write, drop_write};
+ghost use Rattle.sdb_write.specs.Writes.{IsWriteRequest, IsWriteRefusal};
 
 use crate::expectation::check;
 use crate::ops::{drop_ops, put_ops};
-use sdb_action::Request;
+use sdb_action::{DropItem, PutItem, Request};
 use sdb_base::{AccountId, OutOfMemory, Steps, Text};
 use sdb_domain::Accounts;
 use sdb_pairs::{Change, Changes, Ops};
@@ -20,17 +21,19 @@ struct Items;
 /// What a write of the account comes to: its changes, which the account and the request alone tell,
 /// or its first refusal.
 ///
-/// A put or a deletion is refused with `NoSuchDomain` where its domain isn't there. Then, where its
-/// expectation isn't met, it is refused with `AttributeDoesNotExist`, `MultiValuedAttribute` or
-/// `ConditionalCheckFailed`. Of all items only the one that is written is looked at (SimpleDB Developer
-/// Guide, "API Reference": CreateDomain, DeleteDomain, PutAttributes, DeleteAttributes).
+/// A put or a deletion, a batch too, is refused with `NoSuchDomain` where its domain isn't there. Then, where
+/// the expectation of one that is no batch isn't met, it is refused with `AttributeDoesNotExist`,
+/// `MultiValuedAttribute` or `ConditionalCheckFailed`. A batch comes to one edit for each of its items, in
+/// their order. Of all items only the one of whom something is expected is looked at (SimpleDB Developer
+/// Guide, "API Reference": CreateDomain, DeleteDomain, PutAttributes, BatchPutAttributes, DeleteAttributes,
+/// BatchDeleteAttributes).
 pub fn decide(
     alloc: Global,
     accounts: &Accounts,
     account: AccountId,
     request: &Request,
 ) -> Result<Changes, Refusal>
-    requires { IsSingleWrite request.now }
+    requires { IsWriteRequest request.now }
     ensures answer { Answers (decision accounts.now account request.now) result }
     ensures only { IfErr result IsWriteRefusal }
 {
@@ -50,14 +53,73 @@ pub fn decide(
             let ops = put_ops(alloc, item.pairs.as_slice())?;
             Ok(one_edit(alloc, account, domain, &item.name, ops)?)
         }
+        Request::BatchPut(domain, items) => {
+            if accounts.domain(account, domain).is_none() {
+                return Err(Refusal::NoSuchDomain);
+            }
+            Ok(put_edits(alloc, account, domain, items.as_slice())?)
+        }
         Request::Delete(domain, item, expect) => {
             let there = accounts.domain(account, domain);
             check(there, &item.name, expect.as_ref(), &mut items)?;
             let ops = drop_ops(alloc, item.parts.as_slice())?;
             Ok(one_edit(alloc, account, domain, &item.name, ops)?)
         }
+        Request::BatchDelete(domain, items) => {
+            if accounts.domain(account, domain).is_none() {
+                return Err(Refusal::NoSuchDomain);
+            }
+            Ok(drop_edits(alloc, account, domain, items.as_slice())?)
+        }
         _ => unreachable!(),
     }
+}
+
+// One edit an item, in their order.
+fn put_edits(
+    alloc: Global,
+    account: AccountId,
+    domain: &Text,
+    items: &[PutItem],
+) -> Result<Changes, OutOfMemory>
+    ensures { IfOk result (λ changes. changes ≡ map (edit_of account domain.now) (map put_write items.now)) }
+{
+    let mut changes = Changes::new(alloc);
+    for item in items {
+        let ops = put_ops(alloc, item.pairs.as_slice())?;
+        changes.push(edit(alloc, account, domain, &item.name, ops)?)?;
+    }
+    Ok(changes)
+}
+
+fn drop_edits(
+    alloc: Global,
+    account: AccountId,
+    domain: &Text,
+    items: &[DropItem],
+) -> Result<Changes, OutOfMemory>
+    ensures { IfOk result (λ changes. changes ≡ map (edit_of account domain.now) (map drop_write items.now)) }
+{
+    let mut changes = Changes::new(alloc);
+    for item in items {
+        let ops = drop_ops(alloc, item.parts.as_slice())?;
+        changes.push(edit(alloc, account, domain, &item.name, ops)?)?;
+    }
+    Ok(changes)
+}
+
+fn edit(
+    alloc: Global,
+    account: AccountId,
+    domain: &Text,
+    item: &Text,
+    ops: Ops,
+) -> Result<Change, OutOfMemory>
+    ensures { IfOk result (λ change. change ≡ Change.Edit account domain.now item.now ops) }
+{
+    let domain = domain.copy(alloc)?;
+    let item = item.copy(alloc)?;
+    Ok(Change::Edit(account, domain, item, ops))
 }
 
 fn one_edit(
@@ -69,9 +131,7 @@ fn one_edit(
 ) -> Result<Changes, OutOfMemory>
     ensures { IfOk result (λ changes. changes ≡ Change.Edit account domain.now item.now ops ∷ []) }
 {
-    let domain = domain.copy(alloc)?;
-    let item = item.copy(alloc)?;
-    one_change(alloc, Change::Edit(account, domain, item, ops))
+    one_change(alloc, edit(alloc, account, domain, item, ops)?)
 }
 
 fn one_change(alloc: Global, change: Change) -> Result<Changes, OutOfMemory>

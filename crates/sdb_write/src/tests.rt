@@ -3,13 +3,15 @@
 //! is expected: a pair, or a name alone that has no value.
 
 ghost use Rattle.std.specs.Prelude.{IfOk};
-ghost use Rattle.sdb_write.specs.Writes.{IsSingleWrite};
+ghost use Rattle.sdb_write.specs.Writes.{IsWriteRequest};
 
 use super::*;
-use sdb_action::{DropItem, DropPart, DropParts, Expect, PutItem, PutPair, PutPairs, Request};
+use sdb_action::{
+    DropItem, DropPart, DropParts, Expect, PutItem, PutItems, PutPair, PutPairs, Request,
+};
 use sdb_base::{AccountId, OutOfMemory, Steps, Text};
 use sdb_domain::Accounts;
-use sdb_pairs::{Op, Pair};
+use sdb_pairs::{Change, Op, Pair};
 use sdb_tables::{Refusal, fault_row};
 use std::alloc::Global;
 use std::test::Fail;
@@ -73,7 +75,7 @@ fn expectation(alloc: Global, word: &str) -> Result<Option<Expect>, OutOfMemory>
 }
 
 fn put_request(alloc: Global, words: &str, word: &str) -> Result<Request, OutOfMemory>
-    ensures { IfOk result IsSingleWrite }
+    ensures { IfOk result IsWriteRequest }
 {
     let domain = Text::from_str(alloc, "books")?;
     let name = Text::from_str(alloc, "i")?;
@@ -83,7 +85,7 @@ fn put_request(alloc: Global, words: &str, word: &str) -> Result<Request, OutOfM
 }
 
 fn delete_request(alloc: Global, words: &str, word: &str) -> Result<Request, OutOfMemory>
-    ensures { IfOk result IsSingleWrite }
+    ensures { IfOk result IsWriteRequest }
 {
     let domain = Text::from_str(alloc, "books")?;
     let name = Text::from_str(alloc, "i")?;
@@ -93,7 +95,7 @@ fn delete_request(alloc: Global, words: &str, word: &str) -> Result<Request, Out
 }
 
 fn request_of(alloc: Global, line: &str) -> Result<Request, OutOfMemory>
-    ensures { IfOk result IsSingleWrite }
+    ensures { IfOk result IsWriteRequest }
 {
     let (request, word) = line.split_once(" if ").unwrap_or((line, ""));
     if let Some(words) = request.strip_prefix("put ") {
@@ -157,6 +159,41 @@ fn told(alloc: Global, lines: &[&str]) -> Result<String, OutOfMemory> {
     }
     tell_item(alloc, &mut told, &accounts)?;
     Ok(told)
+}
+
+fn batch_item(alloc: Global, name: &str, words: &str) -> Result<PutItem, OutOfMemory> {
+    let name = Text::from_str(alloc, name)?;
+    let pairs = put_pairs(alloc, words)?;
+    Ok(PutItem { name, pairs })
+}
+
+fn batch(alloc: Global) -> Result<Request, OutOfMemory>
+    ensures { IfOk result IsWriteRequest }
+{
+    let mut items = PutItems::new(alloc);
+    items.push(batch_item(alloc, "i", "title=A! year=1990")?)?;
+    items.push(batch_item(alloc, "a", "title=B")?)?;
+    Ok(Request::BatchPut(Text::from_str(alloc, "books")?, items))
+}
+
+#[test]
+fn a_batch_is_one_edit_for_each_item(rt: HostRuntime) -> Result<(), Fail> {
+    let alloc = rt.alloc();
+    let mut accounts = Accounts::new(alloc);
+    let request = batch(alloc)?;
+    let refused = decide(alloc, &accounts, ACCOUNT, &request);
+    assert!(rt; refused.is_err_and(|refusal| refusal == Refusal::NoSuchDomain));
+    execute(alloc, &mut accounts, "make")?;
+    let changes = decide(alloc, &accounts, ACCOUNT, &request)?;
+    let mut names = String::new(alloc);
+    for change in changes.as_slice() {
+        if let Change::Edit(_, _, item, ops) = change {
+            names.push_str(item.as_str())?;
+            assert!(rt; !ops.is_empty());
+        }
+    }
+    assert_eq!(rt; names.as_str(), "ia");
+    Ok(())
 }
 
 #[test]
