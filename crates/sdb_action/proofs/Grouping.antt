@@ -1,9 +1,8 @@
 -- One parameter more: what its entry has then.
-use Rattle.std.proofs.Common.{◌≡◌, ℕ, ◌+◌, Bool, true, false, cond, List, [], ◌∷◌, ◌++◌, take, Option, Some, None, unwrap_or, refl, sym, ap, ◌∙◌, eqb, append-nil}
-use Rattle.std.specs.List.{filter_map, cons_option, slice_get}
-use Rattle.std.proofs.lemmas.List.{take_more}
+use Rattle.std.proofs.Common.{◌≡◌, ℕ, ◌+◌, ◌<◌, Bool, true, false, cond, List, [], ◌∷◌, ◌++◌, get_or, length, map, take, Option, Some, None, unwrap_or, refl, sym, ap, ◌∙◌, eqb, append-nil}
+use Rattle.std.specs.List.{filter_map, cons_option}
+use Rattle.std.proofs.lemmas.List.{map-append, take_more}
 use Rattle.std.proofs.lemmas.List.Elements.{filter_map-append}
-use Rattle.std.proofs.lemmas.Option.{get_or_from_slice_get, slice_get_within}
 use Rattle.sdb_base.specs.Pairs.{NamedValues}
 use Rattle.sdb_action.specs.declared.numbers.EntryKind.{EntryKind}
 use Rattle.sdb_action.specs.Numbers.{Part, part_of}
@@ -40,7 +39,12 @@ one_part kind params param part q e =
     added (filter_map (part_in kind q) params) (part.1, param.1) (eqb part.0 q)
     ∙ ap there (taken_in kind params param q (Some part) e)
 
--- the first parameters, and the one after them
-pub taken_more : (params : NamedValues) (i : ℕ) (param : List ℕ × List ℕ) → slice_get params i ≡ Some param → take i params ++ param ∷ [] ≡ take (i + 1) params
-taken_more params i param at =
-    sym (take_more params i param (slice_get_within params i param at) ∙ ap (λ p. take i params ++ p ∷ []) (get_or_from_slice_get params i param param at))
+-- the names and values of the first members, and those of the one after them
+pub taken_more : {A : Type 0} (named : A → List ℕ × List ℕ) (pairs : List A) (i : ℕ) (pair : A) → i < length pairs → pair ≡ get_or pairs i pair → map named (take i pairs) ++ named pair ∷ [] ≡ map named (take (i + 1) pairs)
+taken_more named pairs i pair within at =
+    sym (ap (map named) (take_more pairs i pair within ∙ ap (λ p. take i pairs ++ p ∷ []) (sym at)) ∙ map-append named (take i pairs) (pair ∷ []))
+
+-- what is its own name and value
+pub map-same : (pairs : NamedValues) → map (λ pair. pair) pairs ≡ pairs
+map-same [] = refl
+map-same (pair ∷ pairs) = ap (λ l. pair ∷ l) (map-same pairs)

@@ -1,6 +1,7 @@
 pub mod Beginnings
+pub mod FieldLemmas
 pub mod Gathering
 pub mod Grouping
-pub mod PartLemmas
+pub mod LawfulLemmas
 pub mod Places
-pub mod RowLemmas
+pub mod StepLemmas

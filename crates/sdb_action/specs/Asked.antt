@@ -2,14 +2,14 @@
 use Rattle.std.specs.Prelude.{ℕ, List, [], ◌∷◌, Some, None, unwrap_or, option_and_then, Result, Ok}
 use Rattle.sdb_base.specs.Decimal.{decimal_of}
 use Rattle.sdb_base.specs.Pairs.{NamedValues}
-use Rattle.sdb_tables.specs.Rules.{Field}
+use Rattle.sdb_tables.specs.Rules.{Field, fields_by}
 use Rattle.sdb_tables.specs.declared.refusal.Refusal.{Refusal}
 use Rattle.sdb_action.specs.declared.action.Action.{Action}
 use Rattle.sdb_action.specs.declared.action.Action.TheVariants as action
 use Rattle.sdb_action.specs.declared.request.Request.{Request}
 use Rattle.sdb_action.specs.declared.request.Request.TheVariants as request
 use Rattle.sdb_base.specs.Results.{and_then}
-use Rattle.sdb_action.specs.Tables.{fields_by, field_at, text_at, domain_rows, item_rows, get_rows, list_rows, select_rows}
+use Rattle.sdb_action.specs.Tables.{field_at, text_at, domain_rows, item_rows, get_rows, list_rows, select_rows}
 use Rattle.sdb_action.specs.Lists.{put_pairs, drop_parts, asked_names, put_items, drop_items, expectation}
 
 -- the domain of a request whose one field is its domain

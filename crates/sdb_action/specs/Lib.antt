@@ -1,6 +1,7 @@
 pub mod Actions
 pub mod Asked
 pub mod Entries
+pub mod Lawful
 pub mod Lists
 pub mod Numbers
 pub mod Tables

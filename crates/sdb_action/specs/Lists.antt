@@ -3,7 +3,7 @@ use Rattle.std.specs.Prelude.{ℕ, List, [], ◌∷◌, length, Bool, false, ◌
 use Rattle.std.specs.List.{list_any}
 use Rattle.std.specs.Str.{bytes_eq}
 use Rattle.sdb_base.specs.Pairs.{NamedValues, value_of}
-use Rattle.sdb_tables.specs.Rules.{Field}
+use Rattle.sdb_tables.specs.Rules.{Field, fields_by}
 use Rattle.sdb_tables.specs.declared.refusal.Refusal.{Refusal}
 use Rattle.sdb_tables.specs.declared.refusal.Refusal.TheVariants.{MissingParameter, NumberSubmittedAttributesExceeded, NumberSubmittedItemsExceeded, DuplicateItemName, IncompleteExpectedExpression, ExistsAndExpectedValue, MultipleExpectedNames}
 use Rattle.sdb_action.specs.declared.numbers.EntryKind.TheVariants.{Attribute, AttributeName, Expected, Item}
@@ -14,7 +14,7 @@ use Rattle.sdb_action.specs.declared.request.PutItem.{PutItem}
 use Rattle.sdb_action.specs.declared.request.DropItem.{DropItem}
 use Rattle.sdb_action.specs.Entries.{entries}
 use Rattle.sdb_base.specs.Results.{and_then, each}
-use Rattle.sdb_action.specs.Tables.{fields_by, field_at, text_at, flag_is, put_rows, drop_rows, name_rows, item_name_rows, expect_rows}
+use Rattle.sdb_action.specs.Tables.{field_at, text_at, flag_is, put_rows, drop_rows, name_rows, item_name_rows, expect_rows}
 
 -- ---- numbers of entries
 

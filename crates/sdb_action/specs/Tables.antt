@@ -1,48 +1,13 @@
 -- The tables of fields: of each action, and of the entries of lists.
-use Rattle.std.specs.Prelude.{ℕ, List, [], ◌∷◌, map, Bool, true, false, Some, None, Result, Ok, Err, if◌then◌else◌, codes, slice_index_or}
+use Rattle.std.specs.Prelude.{ℕ, List, [], ◌∷◌, map, Bool, false, Some, None, Result, Ok, Err, codes, slice_index_or}
 use Rattle.std.specs.Char.{to_ascii_lowercase}
 use Rattle.std.specs.Str.{bytes_eq}
-use Rattle.sdb_base.specs.Pairs.{NamedValues, value_of}
-use Rattle.sdb_tables.specs.declared.kind.FieldKind.{FieldKind}
 use Rattle.sdb_tables.specs.declared.kind.FieldKind.TheVariants.{Domain, Name, Flag, Number, Plain}
 use Rattle.sdb_tables.specs.declared.refusal.Refusal.{Refusal}
-use Rattle.sdb_tables.specs.declared.refusal.Refusal.TheVariants.{InvalidParameterValue, MissingParameter}
-use Rattle.sdb_tables.specs.declared.rules.ParamRow.{ParamRow}
-use Rattle.sdb_tables.specs.Kinds.{fits}
-use Rattle.sdb_tables.specs.Rules.{Field}
-use Rattle.sdb_base.specs.Results.{each}
-
--- a row of a table: the parameter's name, what its value has to be, and whether it has to be there
-pub record Row : Type 0 where
-  pub name : List ℕ
-  pub kind : FieldKind
-  pub needed : Bool
-
--- the row that the program holds
-abbrev pub seen : ParamRow → Row
-seen row = record { name = row.name.now; kind = row.kind; needed = row.needed }
-
--- the row of a field that has to be there
-abbrev pub needed_row : List ℕ → FieldKind → Row
-needed_row name kind = record { name = name; kind = kind; needed = true }
-
--- the row of a field that may be absent
-abbrev pub optional_row : List ℕ → FieldKind → Row
-optional_row name kind = record { name = name; kind = kind; needed = false }
-
--- what a row makes of its parameter's value: one that is needed has to be there, and one that is there
--- has to be of its kind
-abbrev pub judged_by : Row → Field → Result Field Refusal
-judged_by row None = if row.needed then Err MissingParameter else Ok None
-judged_by row (Some text) = if fits row.kind text then Ok (Some text) else Err InvalidParameterValue
-
--- the field of a row
-abbrev pub field_by : NamedValues → Row → Result Field Refusal
-field_by params row = judged_by row (value_of params row.name)
-
--- the fields of a table's rows in order, or the refusal of the first row that fails
-unfoldable pub fields_by : NamedValues → List Row → Result (List Field) Refusal
-fields_by params rows = each (field_by params) rows
+use Rattle.sdb_tables.specs.declared.refusal.Refusal.TheVariants.{MissingParameter}
+use Rattle.sdb_action.specs.declared.fields.Table.{Table}
+use Rattle.sdb_action.specs.declared.fields.Table.TheVariants as table
+use Rattle.sdb_tables.specs.Rules.{Field, Row, needed_row, optional_row}
 
 -- CreateDomain, DeleteDomain, DomainMetadata, BatchPutAttributes and BatchDeleteAttributes
 unfoldable pub domain_rows : List Row
@@ -97,6 +62,22 @@ item_name_rows = needed_row (codes "ItemName") Name ∷ []
 -- an expectation, of which the name is there
 unfoldable pub expect_rows : List Row
 expect_rows = needed_row (codes "Name") Name ∷ optional_row (codes "Value") (Plain 1024) ∷ optional_row (codes "Exists") Flag ∷ []
+
+-- the rows of an action's own fields
+abbrev pub rows_of : Table → List Row
+rows_of table.Domain = domain_rows
+rows_of table.Item = item_rows
+rows_of table.Get = get_rows
+rows_of table.List = list_rows
+rows_of table.Select = select_rows
+
+-- and how many they are
+abbrev pub count_of : Table → ℕ
+count_of table.Domain = 1
+count_of table.Item = 2
+count_of table.Get = 3
+count_of table.List = 2
+count_of table.Select = 3
 
 -- the text of a field, which `MissingParameter` answers where it is absent
 abbrev pub present : Field → Result (List ℕ) Refusal

@@ -7,21 +7,19 @@ ghost use Rattle.sdb_action.specs.Asked.{asked};
 
 use crate::action::Action;
 use crate::expecting::expectation;
-use crate::fields::{
-    domain_fields, field_at, get_fields, item_fields, list_fields, select_fields, text_at,
-};
+use crate::fields::{Table, fields_of, needed_text, optional_text};
 use crate::items::{drop_items, put_items};
 use crate::pairs::{asked_names, drop_parts, put_pairs};
 use crate::request::{DropItem, PutItem, Request};
 use sdb_base::{Params, Text, read_decimal};
-use sdb_tables::{Fields, Refusal};
+use sdb_tables::Refusal;
 use std::alloc::Global;
 
 fn domain(alloc: Global, params: &Params) -> Result<Text, Refusal>
     ensures { Answers (given.domain params.now) result }
 {
-    let fields = domain_fields(alloc, params)?;
-    text_at(alloc, &fields, 0)
+    let fields = fields_of(alloc, Table::Domain, params)?;
+    needed_text(alloc, fields.at(0))
 }
 
 /// How many names `ListDomains` answers at most.
@@ -47,18 +45,18 @@ fn token(token: Option<Text>) -> Option<Text>
 fn list_domains(alloc: Global, params: &Params) -> Result<Request, Refusal>
     ensures { Answers (given.list_domains params.now) result }
 {
-    let fields = list_fields(alloc, params)?;
+    let fields = fields_of(alloc, Table::List, params)?;
     let most = most_domains(fields.at(0));
-    let next = field_at(alloc, &fields, 1)?;
+    let next = optional_text(alloc, fields.at(1))?;
     Ok(Request::ListDomains(most, token(next)))
 }
 
 fn put(alloc: Global, params: &Params) -> Result<Request, Refusal>
     ensures { Answers (given.put params.now) result }
 {
-    let fields = item_fields(alloc, params)?;
-    let domain = text_at(alloc, &fields, 0)?;
-    let name = text_at(alloc, &fields, 1)?;
+    let fields = fields_of(alloc, Table::Item, params)?;
+    let domain = needed_text(alloc, fields.at(0))?;
+    let name = needed_text(alloc, fields.at(1))?;
     let pairs = put_pairs(alloc, params)?;
     let expected = expectation(alloc, params)?;
     Ok(Request::Put(domain, PutItem { name, pairs }, expected))
@@ -67,9 +65,9 @@ fn put(alloc: Global, params: &Params) -> Result<Request, Refusal>
 fn delete(alloc: Global, params: &Params) -> Result<Request, Refusal>
     ensures { Answers (given.delete params.now) result }
 {
-    let fields = item_fields(alloc, params)?;
-    let domain = text_at(alloc, &fields, 0)?;
-    let name = text_at(alloc, &fields, 1)?;
+    let fields = fields_of(alloc, Table::Item, params)?;
+    let domain = needed_text(alloc, fields.at(0))?;
+    let name = needed_text(alloc, fields.at(1))?;
     let parts = drop_parts(alloc, params)?;
     let expected = expectation(alloc, params)?;
     Ok(Request::Delete(domain, DropItem { name, parts }, expected))
@@ -78,9 +76,9 @@ fn delete(alloc: Global, params: &Params) -> Result<Request, Refusal>
 fn get(alloc: Global, params: &Params) -> Result<Request, Refusal>
     ensures { Answers (given.get params.now) result }
 {
-    let fields = get_fields(alloc, params)?;
-    let domain = text_at(alloc, &fields, 0)?;
-    let name = text_at(alloc, &fields, 1)?;
+    let fields = fields_of(alloc, Table::Get, params)?;
+    let domain = needed_text(alloc, fields.at(0))?;
+    let name = needed_text(alloc, fields.at(1))?;
     let names = asked_names(alloc, params)?;
     Ok(Request::Get(domain, name, names))
 }
@@ -104,9 +102,9 @@ fn batch_delete(alloc: Global, params: &Params) -> Result<Request, Refusal>
 fn select(alloc: Global, params: &Params) -> Result<Request, Refusal>
     ensures { Answers (given.select params.now) result }
 {
-    let fields = select_fields(alloc, params)?;
-    let expression = text_at(alloc, &fields, 0)?;
-    let next = field_at(alloc, &fields, 2)?;
+    let fields = fields_of(alloc, Table::Select, params)?;
+    let expression = needed_text(alloc, fields.at(0))?;
+    let next = optional_text(alloc, fields.at(2))?;
     Ok(Request::Select(expression, token(next)))
 }
 

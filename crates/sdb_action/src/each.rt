@@ -16,12 +16,15 @@ pub(crate) trait FromParts: Sized {
     ghost reads: { List (List ℕ × List ℕ) → Result Self Refusal };
 
     /// Reads the parts of one entry.
-    fn from_parts(alloc: Global, parts: &Parts) -> Result<Self, Refusal>
+    fn from_parts(alloc: Global, parts: &Parts<'_>) -> Result<Self, Refusal>
         ensures { Answers (reads parts.now) result };
 }
 
 /// What each entry is read as, in order. The first that is refused decides.
-pub(crate) fn each<T: FromParts + Drop>(alloc: Global, list: &Entries) -> Result<List<T>, Refusal>
+pub(crate) fn each<T: FromParts + Drop>(
+    alloc: Global,
+    list: &Entries<'_>,
+) -> Result<List<T>, Refusal>
     ensures { Answers (results.each T.reads list.now) result }
 {
     let mut members = List::new(alloc);

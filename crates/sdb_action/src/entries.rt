@@ -1,5 +1,5 @@
-// The entries of a numbered list, found in one pass over the parameters.
-ghost use Rattle.std.specs.Prelude.{◌≡◌, ℕ, [], ◌∷◌, ◌++◌, ◌==◌, IfOk, OnOk, Some, unwrap_or, if◌then◌else◌};
+// The entries of a numbered list, found in one pass over names with values.
+ghost use Rattle.std.specs.Prelude.{◌≡◌, ℕ, List, [], ◌∷◌, ◌++◌, ◌==◌, map, IfOk, OnOk, Some, unwrap_or, if◌then◌else◌};
 ghost use Rattle.std.specs.List.{find};
 ghost use Rattle.std.specs.Option.{option_copied};
 ghost use Rattle.std.specs.Ordering.{nat_cmp};
@@ -12,38 +12,92 @@ use crate::numbers::{EntryKind, part_of};
 use sdb_base::{List, OutOfMemory, Params, Text};
 use std::alloc::Global;
 use std::collections::BTreeMap;
+use std::marker::Model;
 
-/// The parts of one entry by their own names, with their values, in the order in which they came.
-pub(crate) type Parts = List<(Text, Text)>;
+/// A part of an entry: its own name with its value, both lent by the parameters.
+#[derive(Debug, Drop)]
+pub(crate) struct Part<'p> {
+    name: &'p str,
+    value: &'p Text,
+}
+
+impl<'p> Model for Part<'p> {
+    ghost use Rattle.std.specs.Prelude.{List, ℕ};
+
+    ghost Value = { List ℕ × List ℕ };
+
+    ghost view = { λ part. (part.name.now, part.value.now) };
+}
+
+/// The parts of one entry, in the order in which they came.
+pub(crate) type Parts<'p> = List<Part<'p>>;
 
 /// The entries of a numbered list, in number order.
-pub(crate) type Entries = List<Parts>;
+pub(crate) type Entries<'p> = List<Parts<'p>>;
+
+/// A name with its value.
+trait NamedValue {
+    ghost use Rattle.std.specs.Prelude.{List, ℕ};
+
+    /// The name and the value.
+    ghost named: { Self → List ℕ × List ℕ };
+
+    fn name(&self) -> &str
+        ensures { result.now ≡ (named self.now).0 };
+
+    fn value(&self) -> &Text
+        ensures { result.now ≡ (named self.now).1 };
+}
+
+impl NamedValue for (Text, Text) {
+    ghost named = { λ pair. pair };
+
+    fn name(&self) -> &str {
+        self.0.as_str()
+    }
+
+    fn value(&self) -> &Text {
+        &self.1
+    }
+}
+
+impl<'p> NamedValue for Part<'p> {
+    ghost named = { λ part. part };
+
+    fn name(&self) -> &str {
+        self.name
+    }
+
+    fn value(&self) -> &Text {
+        self.value
+    }
+}
 
 /// The entries that some parameter is a part of.
-pub(crate) fn entries(
+pub(crate) fn entries<'p>(
     alloc: Global,
     kind: EntryKind,
-    params: &Params,
-) -> Result<Entries, OutOfMemory>
+    params: &'p Params,
+) -> Result<Entries<'p>, OutOfMemory>
     ensures { IfOk result (λ list. list ≡ entries kind params.now) }
 {
-    in_order(alloc, entries_by_place(alloc, kind, params)?)
+    in_order(alloc, entries_by_place(alloc, kind, params.as_slice())?)
 }
 
 /// The entries that some part of an entry is a part of.
-pub(crate) fn entries_within(
+pub(crate) fn entries_within<'p>(
     alloc: Global,
     kind: EntryKind,
-    parts: &Parts,
-) -> Result<Entries, OutOfMemory>
+    parts: &'p Parts<'p>,
+) -> Result<Entries<'p>, OutOfMemory>
     ensures { IfOk result (λ list. list ≡ entries kind parts.now) }
 {
-    in_order(alloc, entries_by_place_within(alloc, kind, parts)?)
+    in_order(alloc, entries_by_place(alloc, kind, parts.as_slice())?)
 }
 
-fn in_order(alloc: Global, map: BTreeMap<u16, Parts>) -> Result<Entries, OutOfMemory>
-    ensures values { IfOk result (λ list. list ≡ values map) }
-    ensures ordered { IsOrdered nat_cmp map }
+fn in_order<'p>(alloc: Global, map: BTreeMap<u16, Parts<'p>>) -> Result<Entries<'p>, OutOfMemory>
+    ensures values { IfOk result (λ list. list ≡ values map.entry) }
+    ensures ordered { IsOrdered nat_cmp map.entry }
 {
     let mut list = List::new(alloc);
     for (_, parts) in map {
@@ -52,51 +106,32 @@ fn in_order(alloc: Global, map: BTreeMap<u16, Parts>) -> Result<Entries, OutOfMe
     Ok(list)
 }
 
-fn entries_by_place(
+fn entries_by_place<'p, P: NamedValue>(
     alloc: Global,
     kind: EntryKind,
-    params: &Params,
-) -> Result<BTreeMap<u16, Parts>, OutOfMemory>
-    ensures { IfOk result (λ map. (place : ℕ) → get nat_cmp map place ≡ entry_at kind params.now place) }
+    pairs: &'p [P],
+) -> Result<BTreeMap<u16, Parts<'p>>, OutOfMemory>
+    ensures { IfOk result (λ all. (place : ℕ) → get nat_cmp all place ≡ entry_at kind (map P.named pairs.now) place) }
 {
-    let mut map = BTreeMap::new(alloc);
-    for i in 0..params.len() {
-        let (name, value) = params.at(i);
-        if let Some((place, part)) = part_of(kind, name.as_str()) {
-            add_part(alloc, &mut map, place, part, value)?;
+    let mut all = BTreeMap::new(alloc);
+    for pair in pairs {
+        if let Some((place, name)) = part_of(kind, pair.name()) {
+            let value = pair.value();
+            add_part(alloc, &mut all, place, Part { name, value })?;
         }
     }
-    Ok(map)
+    Ok(all)
 }
 
-fn entries_by_place_within(
+fn add_part<'p>(
     alloc: Global,
-    kind: EntryKind,
-    parts: &Parts,
-) -> Result<BTreeMap<u16, Parts>, OutOfMemory>
-    ensures { IfOk result (λ map. (place : ℕ) → get nat_cmp map place ≡ entry_at kind parts.now place) }
-{
-    let mut map = BTreeMap::new(alloc);
-    for i in 0..parts.len() {
-        let param = parts.at(i);
-        if let Some((place, part)) = part_of(kind, param.0.as_str()) {
-            add_part(alloc, &mut map, place, part, &param.1)?;
-        }
-    }
-    Ok(map)
-}
-
-fn add_part(
-    alloc: Global,
-    map: &mut BTreeMap<u16, Parts>,
+    map: &mut BTreeMap<u16, Parts<'p>>,
     place: u16,
-    part: &str,
-    value: &Text,
+    part: Part<'p>,
 ) -> Result<(), OutOfMemory>
     ensures { OnOk result ((q : ℕ) → get nat_cmp map.new q
-        ≡ (if place == q then Some (unwrap_or (get nat_cmp map.old q) [] ++ (part.now, value.now) ∷ []) else get nat_cmp map.old q)) }
+        ≡ (if place == q then Some (unwrap_or (get nat_cmp map.old q) [] ++ part.entry ∷ []) else get nat_cmp map.old q)) }
 {
-    let part = (Text::from_str(alloc, part)?, value.copy(alloc)?);
     if let Some(parts) = map.get_mut(&place) {
         return parts.push(part);
     }
@@ -107,15 +142,15 @@ fn add_part(
 }
 
 /// The value of the part of that name.
-pub(crate) fn value_named<'p>(parts: &'p Parts, name: &str) -> Option<&'p Text>
+pub(crate) fn value_named<'p>(parts: &'p Parts<'p>, name: &str) -> Option<&'p Text>
     ensures { option_copied result ≡ value_of parts.now name.now }
 {
     let part = part_named(parts, name)?;
-    Some(&part.1)
+    Some(part.value)
 }
 
-fn part_named<'p>(parts: &'p Parts, name: &str) -> Option<&'p (Text, Text)>
+fn part_named<'p>(parts: &'p Parts<'p>, name: &str) -> Option<&'p Part<'p>>
     ensures { option_copied result ≡ find (λ part. bytes_eq name.now part.0) parts.now }
 {
-    parts.as_slice().iter().find(|part| name == part.0.as_str())
+    parts.as_slice().iter().find(|part| name == part.name)
 }

@@ -4,7 +4,9 @@ ghost use Rattle.sdb_tables.specs.Answers.{Answers};
 ghost use Rattle.sdb_action.specs.Lists as lists;
 
 use crate::entries::{Entries, Parts, entries, value_named};
-use crate::fields::{expect_fields, field_at, flag_is, text_at};
+use crate::fields::{
+    EXISTS, NAME, OPTIONAL_VALUE, flag_is, needed_text, optional_text, part_field,
+};
 use crate::numbers::EntryKind;
 use crate::request::Expect;
 use sdb_base::{Params, Text};
@@ -22,16 +24,21 @@ fn expected_value(name: Text, value: Option<Text>, absent: bool) -> Result<Expec
     }
 }
 
-fn expect_by_fields(alloc: Global, parts: &Parts) -> Result<Expect, Refusal>
+#[tactic(auto, unfolding(crate::specs::Tables::expect_rows, sdb_tables::specs::Rules::fields_by))]
+fn expect_by_fields(alloc: Global, parts: &Parts<'_>) -> Result<Expect, Refusal>
     ensures { Answers (lists.expect_by_fields parts.now) result }
 {
-    let fields = expect_fields(alloc, parts)?;
-    let name = text_at(alloc, &fields, 0)?;
-    let value = field_at(alloc, &fields, 1)?;
-    expected_value(name, value, flag_is("false", &fields, 2))
+    let name = part_field(&NAME, parts)?;
+    let value = part_field(&OPTIONAL_VALUE, parts)?;
+    let absent = flag_is("false", part_field(&EXISTS, parts)?);
+    expected_value(
+        needed_text(alloc, name)?,
+        optional_text(alloc, value)?,
+        absent,
+    )
 }
 
-fn expect(alloc: Global, parts: &Parts) -> Result<Expect, Refusal>
+fn expect(alloc: Global, parts: &Parts<'_>) -> Result<Expect, Refusal>
     ensures { Answers (lists.expect parts.now) result }
 {
     if value_named(parts, "Name").is_none() {
@@ -40,7 +47,7 @@ fn expect(alloc: Global, parts: &Parts) -> Result<Expect, Refusal>
     expect_by_fields(alloc, parts)
 }
 
-fn one_expectation(alloc: Global, list: &Entries) -> Result<Option<Expect>, Refusal>
+fn one_expectation(alloc: Global, list: &Entries<'_>) -> Result<Option<Expect>, Refusal>
     ensures { Answers (lists.one_expectation list.now) result }
 {
     match list.as_slice() {

@@ -7,7 +7,7 @@ ghost use Rattle.sdb_action.specs.Lists as lists;
 
 use crate::each::{FromParts, each};
 use crate::entries::{Entries, Parts, entries};
-use crate::fields::{item_name_fields, text_at};
+use crate::fields::{ITEM_NAME, needed_text, part_field};
 use crate::numbers::EntryKind;
 use crate::pairs::{drop_parts_within, put_pairs_within, some_entry};
 use crate::request::{DropItem, DropItems, PutItem, PutItems};
@@ -18,17 +18,17 @@ use std::alloc::Global;
 /// The greatest number of items in one batch.
 const MOST_ITEMS: usize = 25;
 
-fn item_name(alloc: Global, parts: &Parts) -> Result<Text, Refusal>
+#[tactic(auto, unfolding(crate::specs::Tables::item_name_rows, sdb_tables::specs::Rules::fields_by))]
+fn item_name(alloc: Global, parts: &Parts<'_>) -> Result<Text, Refusal>
     ensures { Answers (lists.item_name parts.now) result }
 {
-    let fields = item_name_fields(alloc, parts)?;
-    text_at(alloc, &fields, 0)
+    needed_text(alloc, part_field(&ITEM_NAME, parts)?)
 }
 
 impl FromParts for PutItem {
     ghost reads = { lists.put_item };
 
-    fn from_parts(alloc: Global, parts: &Parts) -> Result<PutItem, Refusal> {
+    fn from_parts(alloc: Global, parts: &Parts<'_>) -> Result<PutItem, Refusal> {
         let name = item_name(alloc, parts)?;
         let pairs = put_pairs_within(alloc, parts)?;
         Ok(PutItem { name, pairs })
@@ -38,15 +38,15 @@ impl FromParts for PutItem {
 impl FromParts for DropItem {
     ghost reads = { lists.drop_item };
 
-    fn from_parts(alloc: Global, parts: &Parts) -> Result<DropItem, Refusal> {
+    fn from_parts(alloc: Global, parts: &Parts<'_>) -> Result<DropItem, Refusal> {
         let name = item_name(alloc, parts)?;
         let parts = drop_parts_within(alloc, parts)?;
         Ok(DropItem { name, parts })
     }
 }
 
-fn at_most_25(list: Entries) -> Result<Entries, Refusal>
-    ensures { result ≡ lists.at_most_25 list }
+fn at_most_25<'p>(list: Entries<'p>) -> Result<Entries<'p>, Refusal>
+    ensures { result ≡ lists.at_most_25 list.entry }
 {
     if list.len() > MOST_ITEMS {
         return Err(Refusal::NumberSubmittedItemsExceeded(list.len() as u64));
@@ -55,7 +55,7 @@ fn at_most_25(list: Entries) -> Result<Entries, Refusal>
 }
 
 /// The entries of a batch, at least 1 and at most 25.
-fn batch(alloc: Global, params: &Params) -> Result<Entries, Refusal>
+fn batch<'p>(alloc: Global, params: &'p Params) -> Result<Entries<'p>, Refusal>
     ensures { Answers (lists.batch params.now) result }
 {
     some_entry(at_most_25(entries(alloc, EntryKind::Item, params)?)?)

@@ -8,6 +8,7 @@ mod entries;
 mod expecting;
 mod fields;
 mod items;
+mod laws;
 mod naming;
 mod numbers;
 mod pairs;
@@ -15,6 +16,7 @@ mod request;
 
 pub use action::Action;
 pub use asking::read_request;
+pub use laws::asked_is_lawful;
 pub use naming::read_action;
 pub use request::{
     DropItem, DropItems, DropPart, DropParts, Expect, PutItem, PutItems, PutPair, PutPairs, Request,

@@ -5,7 +5,9 @@ ghost use Rattle.sdb_action.specs.Lists as lists;
 
 use crate::each::{FromParts, each};
 use crate::entries::{Entries, Parts, entries, entries_within};
-use crate::fields::{drop_fields, field_at, flag_is, name_fields, put_fields, text_at};
+use crate::fields::{
+    NAME, OPTIONAL_VALUE, REPLACE, VALUE, flag_is, needed_text, optional_text, part_field,
+};
 use crate::numbers::EntryKind;
 use crate::request::{DropPart, DropParts, PutPair, PutPairs};
 use sdb_base::{Params, Text, Texts};
@@ -18,15 +20,15 @@ const MOST_ATTRIBUTES: usize = 256;
 impl FromParts for PutPair {
     ghost reads = { lists.put_pair };
 
-    fn from_parts(alloc: Global, parts: &Parts) -> Result<PutPair, Refusal> {
-        let fields = put_fields(alloc, parts)?;
-        let name = text_at(alloc, &fields, 0)?;
-        let value = text_at(alloc, &fields, 1)?;
-        let replace = flag_is("true", &fields, 2);
+    #[tactic(auto, unfolding(crate::specs::Tables::put_rows, sdb_tables::specs::Rules::fields_by))]
+    fn from_parts(alloc: Global, parts: &Parts<'_>) -> Result<PutPair, Refusal> {
+        let name = part_field(&NAME, parts)?;
+        let value = part_field(&VALUE, parts)?;
+        let replace = part_field(&REPLACE, parts)?;
         Ok(PutPair {
-            name,
-            value,
-            replace,
+            name: needed_text(alloc, name)?,
+            value: needed_text(alloc, value)?,
+            replace: flag_is("true", replace),
         })
     }
 }
@@ -34,25 +36,28 @@ impl FromParts for PutPair {
 impl FromParts for DropPart {
     ghost reads = { lists.drop_part };
 
-    fn from_parts(alloc: Global, parts: &Parts) -> Result<DropPart, Refusal> {
-        let fields = drop_fields(alloc, parts)?;
-        let name = text_at(alloc, &fields, 0)?;
-        let value = field_at(alloc, &fields, 1)?;
-        Ok(DropPart { name, value })
+    #[tactic(auto, unfolding(crate::specs::Tables::drop_rows, sdb_tables::specs::Rules::fields_by))]
+    fn from_parts(alloc: Global, parts: &Parts<'_>) -> Result<DropPart, Refusal> {
+        let name = part_field(&NAME, parts)?;
+        let value = part_field(&OPTIONAL_VALUE, parts)?;
+        Ok(DropPart {
+            name: needed_text(alloc, name)?,
+            value: optional_text(alloc, value)?,
+        })
     }
 }
 
 impl FromParts for Text {
     ghost reads = { lists.asked_name };
 
-    fn from_parts(alloc: Global, parts: &Parts) -> Result<Text, Refusal> {
-        let fields = name_fields(alloc, parts)?;
-        text_at(alloc, &fields, 0)
+    #[tactic(auto, unfolding(crate::specs::Tables::name_rows, sdb_tables::specs::Rules::fields_by))]
+    fn from_parts(alloc: Global, parts: &Parts<'_>) -> Result<Text, Refusal> {
+        needed_text(alloc, part_field(&NAME, parts)?)
     }
 }
 
-fn at_most_256(list: Entries) -> Result<Entries, Refusal>
-    ensures { result ≡ lists.at_most_256 list }
+fn at_most_256<'p>(list: Entries<'p>) -> Result<Entries<'p>, Refusal>
+    ensures { result ≡ lists.at_most_256 list.entry }
 {
     if list.len() > MOST_ATTRIBUTES {
         return Err(Refusal::NumberSubmittedAttributesExceeded(list.len() as u64));
@@ -61,8 +66,8 @@ fn at_most_256(list: Entries) -> Result<Entries, Refusal>
 }
 
 /// Refuses a list without entries.
-pub(crate) fn some_entry(list: Entries) -> Result<Entries, Refusal>
-    ensures { result ≡ lists.some_entry list }
+pub(crate) fn some_entry<'p>(list: Entries<'p>) -> Result<Entries<'p>, Refusal>
+    ensures { result ≡ lists.some_entry list.entry }
 {
     if list.is_empty() {
         return Err(Refusal::MissingParameter);
@@ -71,16 +76,16 @@ pub(crate) fn some_entry(list: Entries) -> Result<Entries, Refusal>
 }
 
 /// The pairs of a put, of which there is at least one.
-fn pairs_of(alloc: Global, list: Entries) -> Result<PutPairs, Refusal>
-    ensures { Answers (lists.pairs_of list) result }
+fn pairs_of(alloc: Global, list: Entries<'_>) -> Result<PutPairs, Refusal>
+    ensures { Answers (lists.pairs_of list.entry) result }
 {
     let list = some_entry(at_most_256(list)?)?;
     each(alloc, &list)
 }
 
 /// The parts of a deletion.
-fn parts_of(alloc: Global, list: Entries) -> Result<DropParts, Refusal>
-    ensures { Answers (lists.parts_of list) result }
+fn parts_of(alloc: Global, list: Entries<'_>) -> Result<DropParts, Refusal>
+    ensures { Answers (lists.parts_of list.entry) result }
 {
     let list = at_most_256(list)?;
     each(alloc, &list)
@@ -101,14 +106,14 @@ pub(crate) fn drop_parts(alloc: Global, params: &Params) -> Result<DropParts, Re
 }
 
 /// The pairs that a batch puts into one of its items.
-pub(crate) fn put_pairs_within(alloc: Global, parts: &Parts) -> Result<PutPairs, Refusal>
+pub(crate) fn put_pairs_within(alloc: Global, parts: &Parts<'_>) -> Result<PutPairs, Refusal>
     ensures { Answers (lists.put_pairs parts.now) result }
 {
     pairs_of(alloc, entries_within(alloc, EntryKind::Attribute, parts)?)
 }
 
 /// The parts that a batch deletes from one of its items.
-pub(crate) fn drop_parts_within(alloc: Global, parts: &Parts) -> Result<DropParts, Refusal>
+pub(crate) fn drop_parts_within(alloc: Global, parts: &Parts<'_>) -> Result<DropParts, Refusal>
     ensures { Answers (lists.drop_parts parts.now) result }
 {
     parts_of(alloc, entries_within(alloc, EntryKind::Attribute, parts)?)

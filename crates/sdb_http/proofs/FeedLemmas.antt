@@ -1,11 +1,12 @@
 -- What a feed has given and can give, as calls come.
-use Rattle.std.proofs.Common.{◌≡◌, ℕ, Bool, true, false, List, [], ◌∷◌, ◌++◌, Option, Some, None, MatchOption, IfNone, IfOk, OnErr, OnSome, Result, Ok, Err, ◌+◌, ◌<◌, length, drop, arith, length-append, length-drop, if◌then◌else◌, refl, sym, ap, ◌∙◌, subst, inl, inr}
+use Rattle.std.proofs.Common.{◌≡◌, ℕ, Bool, true, false, List, [], ◌∷◌, ◌++◌, Option, Some, None, MatchOption, IfNone, IfOk, OnErr, OnSome, Result, Ok, Err, ◌+◌, ◌<◌, ◌≤◌, length, drop, arith, length-append, length-drop, if◌then◌else◌, refl, sym, ap, ◌∙◌, subst, inl, inr}
 use Rattle.sdb_http.specs.Feeds.{AreAll, Back, Call, GoesBack, HasNone, Pushed, Reads, ReadsCalls, StandsFor, State, Takes, Took, before_push, can_go_back, empty_feed, given, held_after, joined, left, pushed, work}
 use Rattle.sdb_http.specs.declared.fault.HttpFault.{HttpFault}
 use Rattle.sdb_base.specs.declared.memory.OutOfMemory.{OutOfMemory}
 use Rattle.sdb_http.specs.declared.message.Message.{Message}
 use Rattle.sdb_http.specs.Inside.{reply_of, taken}
-use Rattle.sdb_http.specs.Messages.{IsFront, Reply, Seen, is_last, trim}
+use Rattle.sdb_http.specs.Heads.{Verdict}
+use Rattle.sdb_http.specs.Messages.{HasHead, IsFront, Reply, Seen, head_limit, is_last, trim}
 use Rattle.sdb_http.proofs.FrontLemmas.{IsFront-append, IsFront-from_trim, IsFront-trim, IsFront-unique}
 use Rattle.sdb_http.proofs.TrimLemmas.{length-trim, trim-append, trim-trim}
 
@@ -123,3 +124,42 @@ Reads-trim bytes (reply ∷ replies) held ended (rest, front, more) = (rest, IsF
 pub Reads-from_trim : (bytes : List ℕ) (replies : List Reply) (held : List ℕ) (ended : Bool) → Reads (trim bytes) replies held ended → Reads bytes replies held ended
 Reads-from_trim bytes [] held ended (is, live) = (sym (trim-trim bytes) ∙ is, live)
 Reads-from_trim bytes (reply ∷ replies) held ended (rest, front, more) = (rest, IsFront-from_trim bytes reply rest front, more)
+
+-- ---- replies and bytes
+
+some_by_head : (bytes : List ℕ) (last : ℕ) (v : Verdict) → HasHead bytes last v → 0 < length bytes
+some_by_head bytes last v head = let within : last < length bytes = head.ends_at.within in omega arith
+
+-- a reply takes a byte at least
+pub IsFront-some : (bytes : List ℕ) (reply : Reply) (rest : List ℕ) → IsFront bytes reply rest → 0 < length (trim bytes)
+unfolding IsFront
+IsFront-some bytes (Ok m) rest (last, shape, head, body) = some_by_head (trim bytes) last (Ok shape) head
+IsFront-some bytes (Err fault) rest (inl (long, is)) = let reached : head_limit ≤ length (trim bytes) = long.reached in omega arith
+IsFront-some bytes (Err fault) rest (inr (last, head)) = some_by_head (trim bytes) last (Err fault) head
+
+-- where a reply isn't the last, what follows it is shorter
+rest-shorter_by : (bytes : List ℕ) (reply : Reply) (rest : List ℕ) → is_last reply ≡ false → IsFront bytes reply rest → length rest < length bytes
+rest-shorter_by bytes (Ok m) rest goes front = rest-shorter bytes m rest front
+rest-shorter_by bytes (Err fault) rest goes front = absurd cc
+
+-- replies and held bytes are at most as many as the bytes
+pub Reads-length : (bytes : List ℕ) (replies : List Reply) (held : List ℕ) (ended : Bool) → Reads bytes replies held ended → length replies + length held ≤ length bytes
+Reads-length bytes [] held ended (is, live) = omega (arith, ap length is, length-trim bytes)
+Reads-length bytes (reply ∷ replies) held ended (rest, front, inl (last, none, gone, over)) =
+    let some : 0 < length (trim bytes) = IsFront-some bytes reply rest front in
+    omega (arith, ap length none, ap length gone, length-trim bytes)
+Reads-length bytes (reply ∷ replies) held ended (rest, front, inr (goes, reads)) =
+    omega (arith, rest-shorter_by bytes reply rest goes front, Reads-length rest replies held ended reads)
+
+-- a take leaves fewer bytes
+fewer_by : (held : List ℕ) (reply : Reply) (rest : List ℕ) (last : Bool) → is_last reply ≡ last → IsFront held reply rest → length (if last then [] else trim rest) < length held
+fewer_by held reply rest true e front = let some : 0 < length (trim held) = IsFront-some held reply rest front in omega (arith, length-trim held)
+fewer_by held reply rest false e front = omega (arith, rest-shorter_by held reply rest e front, length-trim rest)
+
+pub takes_fewer : (old new : State) (reply : Reply) → Takes old (Some reply) new → length new.held < length old.held
+takes_fewer old new reply (live, rest, front, is) =
+    let fewer = fewer_by old.held reply rest (is_last reply) refl front in omega (arith, ap (λ (s : State). length s.held) is)
+
+-- nothing stands at the front of no bytes
+pub HasNone-empty : (bytes : List ℕ) → trim bytes ≡ [] → HasNone bytes
+HasNone-empty bytes empty reply rest front = let some : 0 < length (trim bytes) = IsFront-some bytes reply rest front in absurd (omega (arith, ap length empty))

@@ -1,7 +1,9 @@
-mod TrimLemmas
+pub mod TrimLemmas
 mod FieldLemmas
-mod FrontLemmas
-mod FeedLemmas
+pub mod FrontLemmas
+pub mod FeedLemmas
 mod LookLemmas
 mod InsideLemmas
 mod TakeLemmas
+mod ReadingLemmas
+mod HeadLemmas

@@ -23,6 +23,10 @@ pub record IsScanned (held : List ℕ) (n : ℕ) : Type 0 where
   pub within : n ≤ length held
   pub none : (k : ℕ) → k < n → closes_head held k ≡ false
 
+-- no head ends from one place up to another
+abbrev pub HasNoEnd : List ℕ → ℕ → ℕ → Type 0
+HasNoEnd held from to = (k : ℕ) → from ≤ k → k < to → closes_head held k ≡ false
+
 -- what is known of the head at the front is true
 abbrev pub IsKnown : List ℕ → Known → Type 0
 IsKnown held (Scanned n) = IsScanned held n

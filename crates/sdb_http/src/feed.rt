@@ -1,13 +1,13 @@
 //! The feed: bytes of a connection in, requests out.
 
-ghost use Rattle.std.specs.Prelude.{◌≡◌, ◌∷◌, ◌≤◌, ◌<◌, vec_len, vec_capacity, IfNone, IfOk, IsSome, List, OnErr, OnOk, OnSome, drop, length, ◌+◌, if◌then◌else◌};
+ghost use Rattle.std.specs.Prelude.{◌≡◌, [], ◌∷◌, true, Some, ◌≤◌, ◌<◌, vec_len, vec_capacity, IfNone, IfOk, IsSome, List, OnErr, OnOk, OnSome, drop, length, ◌+◌, if◌then◌else◌};
 ghost use Rattle.sdb_http.specs.Feeds.{AreAll, Back, Call, GoesBack, Pushed, StandsFor, Takes, Took, empty_feed, given, joined, left, pushed, work};
 ghost use Rattle.sdb_http.specs.Inside.{IsFrontOf, held_from, taken};
 ghost use Rattle.sdb_http.specs.Messages.{trim};
 
 use crate::fault::HttpFault;
 use crate::layout::Layout;
-use crate::look::{Found, Known, look, message_at};
+use crate::look::{Found, Known, look, message_at, rest_after, trim};
 use crate::message::Message;
 use sdb_base::OutOfMemory;
 use std::alloc::Global;
@@ -125,14 +125,10 @@ impl Feed {
         ensures err { OnErr result (self.new ≡ self.old) }
     {
         if self.ended {
-            self.mark = Some(Mark {
-                front: self.front,
-                len: self.bytes.len(),
-                ended: true,
-            });
+            self.keep_nothing();
             return Ok(());
         }
-        let fresh = unless_skipped(self.front.start == self.bytes.len(), piece);
+        let fresh = kept_part(self.front.start == self.bytes.len(), piece);
         self.bytes.reserve(fresh.len())?;
         let front = compact(&mut self.bytes, self.front);
         let len = self.bytes.len();
@@ -144,6 +140,24 @@ impl Feed {
             ended: false,
         });
         Ok(())
+    }
+
+    // What a push does after an end: the bytes that were kept for `back` go.
+    fn keep_nothing(&mut self)
+        requires { self.old.ended ≡ true }
+        ensures { self.new ≡ record { held = []; ended = true; before = Some ([], true) } }
+    {
+        let front = Front {
+            start: 0,
+            known: Known::Scanned(0),
+        };
+        self.bytes = Vec::new(*self.bytes.allocator());
+        self.front = front;
+        self.mark = Some(Mark {
+            front,
+            len: 0,
+            ended: true,
+        });
     }
 
     fn next(&mut self) -> Result<Option<Result<Message, HttpFault>>, OutOfMemory>
@@ -188,14 +202,12 @@ impl Feed {
     }
 }
 
-// How many bytes stand after a whole message, without CR and LF at their front.
+// How many bytes are held once a whole message is taken off.
 fn rest_len(held: &[u8], last: usize, layout: &Layout) -> usize
     requires { last + 1 + layout.now.length ≤ length held.now }
     ensures { result ≡ length (trim (drop layout.now.length (drop (last + 1) held.now))) }
 {
-    let (_, after) = held.split_at(last + 1);
-    let (_, rest) = after.split_at(layout.length);
-    trim(rest).len()
+    rest_after(held, last, layout).len()
 }
 
 // Drops the bytes before the front once they are more than half of all, so that each byte is moved a
@@ -217,22 +229,11 @@ fn compact(bytes: &mut Vec<u8>, front: Front) -> Front
     }
 }
 
-// The bytes of a piece that are kept: after a whole head began, all.
-fn unless_skipped(is_fresh: bool, piece: &[u8]) -> &[u8]
+// The part of a piece that is kept: where nothing is held, it loses the CR and LF at its front.
+fn kept_part(is_fresh: bool, piece: &[u8]) -> &[u8]
     ensures { result.now ≡ (if is_fresh then trim piece.now else piece.now) }
 {
     if is_fresh { trim(piece) } else { piece }
-}
-
-// The bytes without CR and LF at their front.
-fn trim(bytes: &[u8]) -> &[u8]
-    ensures { result.now ≡ trim bytes.now }
-{
-    let mut left = bytes;
-    while let [b'\r' | b'\n', rest @ ..] = left {
-        left = rest;
-    }
-    left
 }
 
 // Drops the first `start` bytes.

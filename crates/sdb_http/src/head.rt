@@ -1,15 +1,17 @@
 //! Where a head ends, and the verdict on its bytes.
 
-ghost use Rattle.std.specs.Prelude.{◌≡◌, ℕ, ◌<◌, IfOk, MatchOption, length, false};
+ghost use Rattle.std.specs.Prelude.{◌≡◌, ℕ, ◌<◌, ◌≤◌, IfOk, MatchOption, length, false};
 ghost use Rattle.sdb_http.specs.Heads.{Judged};
+ghost use Rattle.sdb_http.specs.Inside.{HasNoEnd};
 ghost use Rattle.sdb_http.specs.Layouts.{IsLayoutWithin, verdict_at};
 ghost use Rattle.sdb_http.specs.Messages.{EndsAt, closes_head};
 
 use crate::fault::HttpFault;
 use crate::layout::Layout;
-use crate::verdict::verdict;
+use crate::verdict::judge_parts;
 use httparse::Status;
 use httparse::spans::{EMPTY_HEADER_SPAN, parse_request};
+use memchr::memchr;
 
 // A head has at most so many bytes.
 pub(crate) const HEAD_LIMIT: usize = 16_384;
@@ -23,12 +25,32 @@ pub(crate) fn find_end(held: &[u8], from: usize) -> Option<usize>
         (λ last. EndsAt held.now last × (last < HEAD_LIMIT)) }
 {
     let limit = held.len().min(HEAD_LIMIT);
-    for at in from..limit {
-        if closes_head(held, at) {
-            return Some(at);
+    let mut at = from.min(limit);
+    'lines: loop {
+        match line_end(held, at, limit) {
+            None => return None,
+            Some(end) => {
+                if closes_head(held, end) {
+                    return Some(end);
+                }
+                at = end + 1;
+            }
         }
     }
-    None
+}
+
+// The place of the first LF from `at` on and before `limit`.
+fn line_end(held: &[u8], at: usize, limit: usize) -> Option<usize>
+    requires within { at ≤ limit }
+    requires limit { limit ≤ length held.now }
+    ensures { MatchOption result (HasNoEnd held.now at limit)
+        (λ end. (end < limit) × (at ≤ end) × HasNoEnd held.now at end) }
+{
+    let searched = &held[at..limit];
+    match memchr(b'\n', searched) {
+        Some(place) => Some(at + place),
+        None => None,
+    }
 }
 
 // Whether the byte at `at` closes a blank line.
@@ -52,7 +74,7 @@ pub(crate) fn judge(head: &[u8]) -> Result<Layout, HttpFault>
             if spans.len != head.len() {
                 return Err(HttpFault::Invalid);
             }
-            verdict(head, &spans, &headers[..spans.headers])
+            judge_parts(head, &spans, &headers[..spans.headers])
         }
         _ => Err(HttpFault::Invalid),
     }

@@ -1,7 +1,7 @@
 //! The laws of messages in a stream of bytes.
 
-ghost use Rattle.std.specs.Prelude.{◌≡◌, ℕ, List, [], ◌++◌, Ok};
-ghost use Rattle.sdb_http.specs.Feeds.{AreAll};
+ghost use Rattle.std.specs.Prelude.{◌≡◌, ℕ, ◌+◌, ◌≤◌, List, [], ◌++◌, Bool, Ok, length};
+ghost use Rattle.sdb_http.specs.Feeds.{AreAll, HasNone, Reads};
 ghost use Rattle.sdb_http.specs.Messages.{IsFront, Reply, Seen, trim};
 
 /// A stream of bytes has one list of messages: two readings of it are one.
@@ -19,4 +19,17 @@ pub fn no_proper_prefix()
 pub fn skipped_bytes_are_not_seen()
     ensures skipped { (bytes : List ℕ) (xs : List Reply) → AreAll bytes xs → AreAll (trim bytes) xs }
     ensures kept { (bytes : List ℕ) (xs : List Reply) → AreAll (trim bytes) xs → AreAll bytes xs }
+{}
+
+/// Each request and each fault takes a byte at least: with the bytes that are held beside them they are at
+/// most as many as the bytes of the stream.
+pub fn replies_take_bytes()
+    ensures held { (bytes : List ℕ) (replies : List Reply) (held : List ℕ) (ended : Bool)
+        → Reads bytes replies held ended → length replies + length held ≤ length bytes }
+    ensures all { (bytes : List ℕ) (replies : List Reply) → AreAll bytes replies → length replies ≤ length bytes }
+{}
+
+/// Nothing stands at the front of no bytes, and so none of CR and LF alone.
+pub fn no_bytes_no_reply()
+    ensures { (bytes : List ℕ) → trim bytes ≡ [] → HasNone bytes }
 {}

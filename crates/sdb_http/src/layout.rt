@@ -23,3 +23,13 @@ pub(crate) enum Values {
     Once(Span),
     Twice,
 }
+
+// The header lines that rules look at, as one walk over all of them finds them.
+#[derive(Clone, Copy, Debug)]
+pub(crate) struct Wanted {
+    pub transfer_encoding: Values,
+    pub content_length: Values,
+    pub host: Values,
+    // Whether a Connection header asks for the connection to be closed.
+    pub close: bool,
+}

@@ -95,3 +95,24 @@ pub(crate) fn message_at(
         close: layout.close,
     })
 }
+
+// What is held once a whole message is taken off: the bytes after it, without CR and LF at their front.
+pub(crate) fn rest_after<'a>(held: &'a [u8], last: usize, layout: &Layout) -> &'a [u8]
+    requires { last + 1 + layout.now.length ≤ length held.now }
+    ensures { result.now ≡ trim (drop layout.now.length (drop (last + 1) held.now)) }
+{
+    let (_, after) = held.split_at(last + 1);
+    let (_, rest) = after.split_at(layout.length);
+    trim(rest)
+}
+
+// The bytes without CR and LF at their front.
+pub(crate) fn trim(bytes: &[u8]) -> &[u8]
+    ensures { result.now ≡ trim bytes.now }
+{
+    let mut left = bytes;
+    while let [b'\r' | b'\n', rest @ ..] = left {
+        left = rest;
+    }
+    left
+}

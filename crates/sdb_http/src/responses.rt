@@ -6,6 +6,7 @@ ghost use Rattle.sdb_http.specs.Responses.{close_line, close_lines, head_end, ph
 ghost use Rattle.sdb_tables.specs.Faults.{IsAnswerStatus};
 
 use http::StatusCode;
+use itoa::Buffer;
 use sdb_base::{Bytes, OutOfMemory};
 use std::alloc::Global;
 
@@ -20,7 +21,7 @@ pub fn response(alloc: Global, status: u16, body: &[u8], close: bool) -> Result<
 {
     let mut out = Bytes::with_room(alloc, body.len().saturating_add(HEAD_ROOM))?;
     push_status(&mut out, status)?;
-    push_length(alloc, &mut out, body.len())?;
+    push_length(&mut out, body.len())?;
     push_end(&mut out, close)?;
     out.append(body)?;
     Ok(out)
@@ -41,12 +42,12 @@ fn push_status(out: &mut Bytes, status: u16) -> Result<(), OutOfMemory>
 }
 
 #[tactic(auto, using(std::proofs::Common::append_assoc))]
-fn push_length(alloc: Global, out: &mut Bytes, length: usize) -> Result<(), OutOfMemory>
+fn push_length(out: &mut Bytes, length: usize) -> Result<(), OutOfMemory>
     ensures { OnOk result (out.new.bytes ≡ out.old.bytes ++ (type_lines ++ decimal length)) }
 {
-    let digits = length.to_string(alloc)?;
+    let mut digits = Buffer::new();
     out.append(type_lines())?;
-    out.append(digits.as_bytes())?;
+    out.append(digits.format(length).as_bytes())?;
     Ok(())
 }
 

@@ -1,25 +1,24 @@
 //! The rules on the parts of a head, in their order.
 
-ghost use Rattle.std.specs.Prelude.{◌≡◌, All, IfOk, length, map};
+ghost use Rattle.std.specs.Prelude.{◌≡◌, ◌≤◌, All, IfOk, length};
 ghost use Rattle.std.specs.Char.{is_ascii_digit};
 ghost use Rattle.std.specs.List.{list_all};
-ghost use Rattle.httparse.specs.Spans.{IsHeaderWithin, IsWithin, header_bytes, span_bytes};
-ghost use Rattle.sdb_http.specs.Heads.{content_length, host_name, is_length, length_in, length_of, no_values, only, query_for, query_of, transfer_encoding, values_of, verb_of, verdict};
-ghost use Rattle.sdb_http.specs.Layouts.{IsLayoutWithin, bytes_at, parts_at, verdict_at};
+ghost use Rattle.httparse.specs.Spans.{IsHeaderWithin, IsWithin, span_bytes};
+ghost use Rattle.sdb_base.specs.Decimal.{value_after};
+ghost use Rattle.sdb_http.specs.Heads.{is_length, length_in, query_for, query_of, verb_of, verdict};
+ghost use Rattle.sdb_http.specs.Layouts.{IsLayoutWithin, IsValuesWithin, bytes_at, length_found, none_found, one_found, parts_at, verdict_at, verdict_found};
 
 use crate::fault::HttpFault;
-use crate::fields::{asks_close, find_values};
-use crate::layout::{Layout, Values};
-use crate::words::{content_length, host_name, transfer_encoding};
+use crate::fields::find_wanted;
+use crate::layout::{Layout, Values, Wanted};
 use httparse::spans::{HeaderSpan, RequestSpans, Span};
 use sdb_base::Verb;
 
 // The most bytes of a body.
-const MOST_BODY: usize = 1_048_576;
+const MOST_BODY: u64 = 1_048_576;
 
-// The verdict on the parts of a head that the grammar accepts: the first fault in the order of the rules.
-#[tactic(auto, unfolding(crate::specs::Heads::verdict))]
-pub(crate) fn verdict(
+// The verdict on the parts of a head that the grammar accepts.
+pub(crate) fn judge_parts(
     head: &[u8],
     spans: &RequestSpans,
     headers: &[HeaderSpan],
@@ -30,13 +29,27 @@ pub(crate) fn verdict(
     ensures value { verdict_at head.now result ≡ verdict (parts_at head.now spans.now headers.now) }
     ensures within { IfOk result (IsLayoutWithin (length head.now)) }
 {
-    no_transfer_encoding(head, headers)?;
-    let length = length_of(head, headers)?;
+    let wanted = find_wanted(head, headers);
+    verdict(head, spans, &wanted)
+}
+
+// The first fault in the order of the rules, or what the head asks for.
+#[tactic(auto, unfolding(crate::specs::Layouts::verdict_found))]
+fn verdict(head: &[u8], spans: &RequestSpans, wanted: &Wanted) -> Result<Layout, HttpFault>
+    requires path { IsWithin (length head.now) spans.now.path }
+    requires method { IsWithin (length head.now) spans.now.method }
+    requires content_length { IsValuesWithin (length head.now) wanted.now.content_length }
+    requires host { IsValuesWithin (length head.now) wanted.now.host }
+    ensures value { verdict_at head.now result ≡ verdict_found head.now spans.now wanted.now }
+    ensures within { IfOk result (IsLayoutWithin (length head.now)) }
+{
+    none_found(wanted.transfer_encoding)?;
+    let length = length_found(head, wanted.content_length)?;
     let verb = verb_of(spans.method.of(head))?;
     let query = query_of(head, spans.path)?;
     let query = query_for(head, verb, query)?;
-    let host = host_of(head, headers)?;
-    let close = spans.version == 0 || asks_close(head, headers);
+    let host = one_found(head, wanted.host)?;
+    let close = spans.version == 0 || wanted.close;
     Ok(Layout {
         verb,
         host,
@@ -46,24 +59,36 @@ pub(crate) fn verdict(
     })
 }
 
-fn no_transfer_encoding(head: &[u8], headers: &[HeaderSpan]) -> Result<(), HttpFault>
-    requires { All (IsHeaderWithin (length head.now)) headers.now }
-    ensures { result ≡ no_values (values_of transfer_encoding (map (header_bytes head.now) headers.now)) }
+fn none_found(found: Values) -> Result<(), HttpFault>
+    ensures { result ≡ none_found found }
 {
-    match find_values(head, headers, transfer_encoding()) {
+    match found {
         Values::Absent => Ok(()),
         Values::Once(_) => Err(HttpFault::Invalid),
         Values::Twice => Err(HttpFault::Invalid),
     }
 }
 
-fn length_of(head: &[u8], headers: &[HeaderSpan]) -> Result<usize, HttpFault>
-    requires { All (IsHeaderWithin (length head.now)) headers.now }
-    ensures { result ≡ length_of (values_of content_length (map (header_bytes head.now) headers.now)) }
+fn length_found(head: &[u8], found: Values) -> Result<usize, HttpFault>
+    requires { IsValuesWithin (length head.now) found }
+    ensures { result ≡ length_found head.now found }
 {
-    match find_values(head, headers, content_length()) {
+    match found {
         Values::Absent => Ok(0),
         Values::Once(value) => length_in(value.of(head)),
+        Values::Twice => Err(HttpFault::Invalid),
+    }
+}
+
+// The one value that was found.
+fn one_found(head: &[u8], found: Values) -> Result<Span, HttpFault>
+    requires { IsValuesWithin (length head.now) found }
+    ensures value { bytes_at head.now result ≡ one_found head.now found }
+    ensures within { IfOk result (IsWithin (length head.now)) }
+{
+    match found {
+        Values::Once(value) => Ok(value),
+        Values::Absent => Err(HttpFault::Invalid),
         Values::Twice => Err(HttpFault::Invalid),
     }
 }
@@ -75,18 +100,24 @@ fn length_in(value: &[u8]) -> Result<usize, HttpFault>
     if !is_length(value) {
         return Err(HttpFault::Invalid);
     }
-    let mut number: usize = 0;
-    for digit in value {
-        if number > MOST_BODY {
-            return Err(HttpFault::BodyTooLong);
-        }
-        number = number * 10 + digit.saturating_sub(b'0') as usize;
-    }
+    let number = value_of(value);
     if number <= MOST_BODY {
-        Ok(number)
+        Ok(number as usize)
     } else {
         Err(HttpFault::BodyTooLong)
     }
+}
+
+// The number that digits are; each step takes at most the sum and the digit of a byte.
+fn value_of(digits: &[u8]) -> u64
+    requires { length digits.now ≤ 10 }
+    ensures { result ≡ value_after 0 digits.now }
+{
+    let mut number: u64 = 0;
+    for digit in digits {
+        number = number * 10 + digit.saturating_sub(b'0') as u64;
+    }
+    number
 }
 
 fn is_length(value: &[u8]) -> bool
@@ -143,17 +174,5 @@ fn query_for(head: &[u8], verb: Verb, query: Span) -> Result<Span, HttpFault>
         Verb::Get => Ok(query),
         Verb::Post if query.of(head).is_empty() => Ok(query),
         Verb::Post => Err(HttpFault::Invalid),
-    }
-}
-
-fn host_of(head: &[u8], headers: &[HeaderSpan]) -> Result<Span, HttpFault>
-    requires { All (IsHeaderWithin (length head.now)) headers.now }
-    ensures value { bytes_at head.now result ≡ only (values_of host_name (map (header_bytes head.now) headers.now)) }
-    ensures within { IfOk result (IsWithin (length head.now)) }
-{
-    match find_values(head, headers, host_name()) {
-        Values::Once(value) => Ok(value),
-        Values::Absent => Err(HttpFault::Invalid),
-        Values::Twice => Err(HttpFault::Invalid),
     }
 }

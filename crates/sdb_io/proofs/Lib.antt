@@ -1,2 +1,5 @@
 pub mod CallLemmas
+mod ClosingLemmas
+mod LinksLemmas
 mod MemoryLemmas
+mod PlaybackLemmas

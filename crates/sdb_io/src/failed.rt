@@ -1,7 +1,22 @@
-// The one error of a source or a sink.
+// The one error of what can fail from outside.
+ghost use Rattle.std.specs.Prelude.{◌≡◌, ◌≤◌};
+ghost use Rattle.sdb_io.specs.Memory.{counted};
+
 use thiserror::Error;
 
 /// The device failed. Its count of faults rose in the call.
 #[derive(Clone, Copy, Debug, PartialEq, Eq, Error)]
 #[error("the device failed")]
 pub struct Failed;
+
+// A signal interrupts a call now and then. One that is interrupted so often is taken as failed.
+pub(crate) const MAX_TRIES: u32 = 1000;
+
+/// One fault more.
+pub(crate) fn raise(faults: &mut u64) -> Failed
+    ensures one_more { faults.new ≡ counted faults.old }
+    ensures later { faults.old ≤ faults.new }
+{
+    *faults = faults.saturating_add(1);
+    Failed
+}

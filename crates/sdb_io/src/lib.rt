@@ -1,20 +1,20 @@
-//! What the server reads from and writes to: sources and sinks of bytes, with a count of their faults.
+//! What the server meets its clients and its input through: sources and sinks of bytes, connections, and clocks.
 //!
-//! A call answers [`Failed`] only where the object's count rose in that call, so a fault that the
-//! server reports is one that its input or output had.
+//! Sources, sinks and connections have a count of their faults. A call answers [`Failed`] only where the object's
+//! count rose in that call, so a fault that the server reports is one that its input, output or network had.
 #![tactic(auto)]
 
+mod clock;
 mod failed;
-mod memory;
+mod links;
 mod sink;
 mod source;
-mod streams;
 
+pub use clock::{Clock, MemoryClock};
 pub use failed::Failed;
-pub use memory::{MemorySink, MemorySource};
-pub use sink::{Sink, write_whole};
-pub use source::Source;
-pub use streams::{ReadSource, WriteSink};
+pub use links::{LinkEvent, LinkScript, LinkStep, Links, MemoryLinks};
+pub use sink::{MemorySink, Sink, WriteSink, write_whole};
+pub use source::{MemorySource, ReadSource, Source};
 
 #[cfg(test)]
 mod tests;

@@ -7,6 +7,12 @@ ghost use Rattle.sdb_base.specs.Causes.{HasCause};
 
 use crate::Failed;
 
+mod memory;
+mod stream;
+
+pub use memory::MemorySink;
+pub use stream::WriteSink;
+
 /// A stream of bytes that is written at its end.
 pub trait Sink {
     /// The bytes written so far, or `None` where that isn't known.

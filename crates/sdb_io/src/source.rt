@@ -7,6 +7,13 @@ ghost use Rattle.sdb_base.specs.Causes.{HasCause};
 
 use crate::Failed;
 
+mod memory;
+mod stream;
+
+pub use memory::MemorySource;
+pub(crate) use memory::copy_front;
+pub use stream::ReadSource;
+
 /// A stream of bytes that is read from its front.
 pub trait Source {
     /// The bytes still to come, or `None` where that isn't known.

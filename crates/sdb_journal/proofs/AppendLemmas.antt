@@ -9,7 +9,7 @@ use Rattle.sdb_record.specs.Journals.{header, blocks, entry, next, Stands}
 use Rattle.sdb_journal.specs.Places.{Place, number_after, IsAt}
 use Rattle.sdb_journal.specs.Appends.{body_of, BeforeOrAfter, Appended}
 
-header_size : (generation first : ℕ) → length (header generation first) ≡ 25
+pub header_size : (generation first : ℕ) → length (header generation first) ≡ 25
 unfolding header
 header_size generation first = refl
 
@@ -33,13 +33,13 @@ frame_end frame least =
     ∙ end_set (drop 12 frame) (length frame - 13) (omega (arith, length-drop 12 frame))
 
 -- one record more
-blocks-append : (n : ℕ) (bodies : List (List ℕ)) (body : List ℕ) → blocks n (bodies ++ body ∷ []) ≡ blocks n bodies ++ (1 ∷ entry (next (number_after n bodies)) body)
+pub blocks-append : (n : ℕ) (bodies : List (List ℕ)) (body : List ℕ) → blocks n (bodies ++ body ∷ []) ≡ blocks n bodies ++ (1 ∷ entry (next (number_after n bodies)) body)
 blocks-append n [] body = ap (λ l. 1 ∷ l) (append-nil (entry (next n) body))
 blocks-append n (b ∷ bodies) body =
     ap (λ l. 1 ∷ (entry (next n) b ++ l)) (blocks-append (next n) bodies body)
     ∙ ap (λ l. 1 ∷ l) (sym (append_assoc (entry (next n) b) (blocks (next n) bodies) (1 ∷ entry (next (number_after (next n) bodies)) body)))
 
-number_after-append : (n : ℕ) (bodies : List (List ℕ)) (body : List ℕ) → number_after n (bodies ++ body ∷ []) ≡ next (number_after n bodies)
+pub number_after-append : (n : ℕ) (bodies : List (List ℕ)) (body : List ℕ) → number_after n (bodies ++ body ∷ []) ≡ next (number_after n bodies)
 number_after-append n [] body = refl
 number_after-append n (b ∷ bodies) body = number_after-append (next n) bodies body
 

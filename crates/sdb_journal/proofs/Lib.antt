@@ -1,3 +1,7 @@
 pub mod AppendLemmas
 mod CreateLemmas
-mod RestLemmas
+mod CursorLemmas
+pub mod HeadLemmas
+pub mod LookLemmas
+pub mod RestLemmas
+mod WindowLemmas

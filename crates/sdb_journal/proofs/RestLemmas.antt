@@ -16,15 +16,15 @@ use Rattle.sdb_journal.specs.Appends.{BeforeOrAfter, Appended}
 use Rattle.sdb_journal.specs.Rests.{StandsWith, RestsAt, base_of}
 
 -- ---- one group more
-reached_more : (g : Ground) (groups : List Group) (group : Group) → reached g (groups ++ group ∷ []) ≡ state (reached g groups) group
+pub reached_more : (g : Ground) (groups : List Group) (group : Group) → reached g (groups ++ group ∷ []) ≡ state (reached g groups) group
 reached_more g groups group =
     ap (λ changes. state [] changes) (sym (flat_map_more (λ x. x) g.changes groups group)) ∙ fold-append after_change [] (g.changes ++ all_of groups) group
 
-last_more : (n : ℕ) (groups : List Group) (group : Group) → last n (groups ++ group ∷ []) ≡ next (last n groups)
+pub last_more : (n : ℕ) (groups : List Group) (group : Group) → last n (groups ++ group ∷ []) ≡ next (last n groups)
 last_more n [] group = refl
 last_more n (g ∷ gs) group = last_more (next n) gs group
 
-spell_more : (groups : List Group) (bodies : List (List ℕ)) (group : Group) (body : List ℕ) → Spell groups bodies → IsGroup group body → Spell (groups ++ group ∷ []) (bodies ++ body ∷ [])
+pub spell_more : (groups : List Group) (bodies : List (List ℕ)) (group : Group) (body : List ℕ) → Spell groups bodies → IsGroup group body → Spell (groups ++ group ∷ []) (bodies ++ body ∷ [])
 spell_more [] [] group body spelled is = (is, tt)
 spell_more [] (b ∷ bs) group body spelled is = absurd spelled
 spell_more (g ∷ gs) [] group body spelled is = absurd spelled

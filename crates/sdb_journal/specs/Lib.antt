@@ -1,4 +1,9 @@
 pub mod Appends
 pub mod Creates
+pub mod Heads
+pub mod Looks
+pub mod Numbers
 pub mod Places
+pub mod Reads
 pub mod Rests
+pub mod Windows

@@ -19,7 +19,7 @@ pub(crate) fn append_at<D: Disk>(
 ) -> Result<(), DiskFault>
     requires file { file < 4 }
     requires least { 13 ≤ length frame.old }
-    requires most { length frame.old < 2 ^ 32 }
+    requires most { length frame.old < 2 ^ 32 + 13 }
     requires gate { gate ≤ 2 ^ 62 }
     requires within { IsTrue (D.state disk.old).told → gate < length ((D.state disk.old).seen file) }
     requires settled { SettledFile (D.state disk.old) file }
@@ -31,6 +31,7 @@ pub(crate) fn append_at<D: Disk>(
         → IsAt place bodies ((D.state disk.old).seen file) → after.generation ≡ place.generation → after.first ≡ place.first
         → after.gate ≡ gate + length frame.old → after.sequence ≡ number
         → Appended file after (bodies ++ body_of frame.old ∷ []) (D.state disk.old) (D.state disk.new)) }
+    ensures settled { OnOk result (SettledFile (D.state disk.new) file) }
     ensures fits { OnOk result (gate + length frame.old ≤ 2 ^ 62) }
     ensures time { Elapses (D.state disk.old) (D.state disk.new) }
     ensures told { (D.state disk.new).told ≡ (D.state disk.old).told }

@@ -5,17 +5,28 @@ ghost use Rattle.sdb_disk.specs.Disk.{SettledFile, LeavesOnly, Elapses};
 ghost use Rattle.sdb_pairs.specs.declared.change.Change.{Change};
 ghost use Rattle.sdb_pairs.specs.Accounts.{DomainEntries};
 ghost use Rattle.sdb_pairs.specs.Changes.{state};
-ghost use Rattle.sdb_record.specs.Journals.{Group, IsClosed, IsGroup, last};
+ghost use Rattle.sdb_record.specs.Journals.{Group, IsClosed, IsGroup, last, next};
 ghost use Rattle.sdb_record.specs.Stands.{journal_of, reached, HasSmallItems, StandsFor};
 ghost use Rattle.sdb_journal.specs.Creates.{Makes, Created, StandOn};
 ghost use Rattle.sdb_journal.specs.Places.{IsAt};
 ghost use Rattle.sdb_journal.specs.Appends.{body_of, BeforeOrAfter, Appended};
 ghost use Rattle.sdb_journal.specs.Rests.{StandsWith, RestsAt, base_of};
+ghost use Rattle.sdb_journal.specs.Heads.{HasHead};
+ghost use Rattle.sdb_journal.specs.Looks.{Looks, OnRefusal, HasOpenCause};
+ghost use Rattle.sdb_journal.specs.Reads.{Started, IsBadJournal};
 
 use crate::append::append_at;
 use crate::create::make_first;
-use sdb_disk::{Disk, DiskFault};
+use crate::cursor::read_records;
+use crate::head::read_head;
+use crate::window::Window;
+use sdb_disk::{Disk, DiskFault, OpenFault};
+use sdb_pairs::Changes;
+use std::alloc::Global;
 use std::marker::Model;
+
+// The place of the first gate, behind the header.
+const FIRST_GATE: u64 = 25;
 
 /// A journal that records are appended to: its generation, the number before its first record, the place of its
 /// current gate in its file, and the number of its last record.
@@ -63,6 +74,70 @@ impl Journal {
         })
     }
 
+    /// The journal in an open file, and the changes of all its records, one list after the other. The file is read in
+    /// pieces, each byte behind the header once, and the memory is that of the changes and of one record. NotAStore
+    /// comes exactly where the file is no journal that belongs into it.
+    pub fn start<D: Disk>(
+        alloc: Global,
+        file: u8,
+        disk: &mut D,
+    ) -> Result<(Journal, Changes), OpenFault>
+        requires file { file < 4 }
+        requires gate { IsTrue (D.state disk.old).told → IsClosed 26 ((D.state disk.old).seen file) → ⊥ }
+
+        ensures value { IfOk result (λ x. IsTrue (D.state disk.old).told → Started x.0 x.1 ((D.state disk.old).seen file)) }
+        ensures own { IfOk result (λ x. journal_of x.0.generation ≡ file) }
+        ensures refused { OnRefusal result (λ k. (k ≡ file) × (IsTrue (D.state disk.old).told → IsBadJournal file ((D.state disk.old).seen file))) }
+        ensures cause { HasOpenCause (D.state disk.old).faults (D.state disk.new).faults result }
+        ensures looks { Looks (D.state disk.old) (D.state disk.new) }
+    {
+        match read_head(file, disk) {
+            Ok(Some((generation, first))) => {
+                match Journal::behind_head(alloc, file, generation, first, disk) {
+                    Ok(started) => Ok(started),
+                    Err(fault) => Err(fault),
+                }
+            }
+            Ok(None) => Err(OpenFault::NotAStore(file)),
+            Err(fault) => Err(fault),
+        }
+    }
+
+    // The journal behind that header, and the changes of its records.
+    fn behind_head<D: Disk>(
+        alloc: Global,
+        file: u8,
+        generation: u64,
+        first: u64,
+        disk: &mut D,
+    ) -> Result<(Journal, Changes), OpenFault>
+        requires file { file < 4 }
+        requires head { IsTrue (D.state disk.old).told → HasHead generation first ((D.state disk.old).seen file) }
+
+        ensures value { IfOk result (λ x. IsTrue (D.state disk.old).told → Started x.0 x.1 ((D.state disk.old).seen file)) }
+        ensures generation { IfOk result (λ x. x.0.generation ≡ generation) }
+        ensures refused { OnRefusal result (λ k. (k ≡ file) × (IsTrue (D.state disk.old).told → IsBadJournal file ((D.state disk.old).seen file))) }
+        ensures cause { HasOpenCause (D.state disk.old).faults (D.state disk.new).faults result }
+        ensures looks { Looks (D.state disk.old) (D.state disk.new) }
+    {
+        let Ok(len) = disk.len(file) else {
+            return Err(OpenFault::Disk);
+        };
+        let mut window = Window::new(alloc, FIRST_GATE, len.saturating_sub(FIRST_GATE));
+        match read_records(alloc, file, first, &mut window, disk) {
+            Ok((changes, sequence)) => {
+                let journal = Journal {
+                    generation,
+                    first,
+                    gate: window.place(),
+                    sequence,
+                };
+                Ok((journal, changes))
+            }
+            Err(fault) => Err(fault),
+        }
+    }
+
     /// The number of the last record.
     pub fn sequence(&self) -> u64
         ensures { result ≡ self.now.sequence }
@@ -82,7 +157,7 @@ impl Journal {
     /// nothing but a new start may use the disk.
     pub fn append<D: Disk>(&mut self, frame: &mut [u8], disk: &mut D) -> Result<(), DiskFault>
         requires least { 13 ≤ length frame.old }
-        requires most { length frame.old < 2 ^ 32 }
+        requires most { length frame.old < 2 ^ 32 + 13 }
         requires within { IsTrue (D.state disk.old).told → self.old.gate < length ((D.state disk.old).seen (journal_of self.old.generation)) }
         requires settled { SettledFile (D.state disk.old) (journal_of self.old.generation) }
 
@@ -97,6 +172,8 @@ impl Journal {
             (StandsWith (reached (base_of self.old changes) groups) (last self.old.first groups) (Some group)) }
         ensures rests { OnOk result (IsTrue (D.state disk.old).told → (changes : List Change) (groups : List Group) (group : Group) → RestsAt self.old changes groups (D.state disk.old)
             → IsGroup group (body_of frame.old) → RestsAt self.new changes (groups ++ group ∷ []) (D.state disk.new)) }
+        ensures settled { OnOk result (SettledFile (D.state disk.new) (journal_of self.new.generation)) }
+        ensures sequence { OnOk result (self.new.sequence ≡ next self.old.sequence) }
         ensures same_journal { OnOk result ((self.new.generation ≡ self.old.generation) × (self.new.first ≡ self.old.first)) }
         ensures kept { OnErr result (self.new ≡ self.old) }
         ensures time { Elapses (D.state disk.old) (D.state disk.new) }

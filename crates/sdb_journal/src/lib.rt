@@ -3,7 +3,16 @@
 
 mod append;
 mod create;
+mod cursor;
 mod frame;
+mod head;
 mod journal;
+mod numbers;
+mod record;
+mod window;
 
+pub use head::read_head;
 pub use journal::Journal;
+
+#[cfg(test)]
+mod tests;

@@ -79,7 +79,7 @@ range : (o : Option ℕ) → ((m : ℕ) → o ≡ Some m → nat_le m 2500 ≡ t
 range None most n e = absurd (not_none n e)
 range (Some m) most n e = nonzero (m == 0) m n refl (most m refl) e
 
-limit_lawful : (text : List ℕ) (n : ℕ) → limit_of text ≡ Some n → has_lawful_limit (Some n) ≡ true
+pub limit_lawful : (text : List ℕ) (n : ℕ) → limit_of text ≡ Some n → has_lawful_limit (Some n) ≡ true
 unfolding limit_of
 limit_lawful text n e = range (decimal_of text 2500) (λ m h. bounded (is_decimal text) (nat_le (value_after 0 text) 2500) (value_after 0 text) m refl h) n e
 

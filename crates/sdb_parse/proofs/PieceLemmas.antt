@@ -106,11 +106,18 @@ lawful before _ _ _ (with_equals b rest c) utf8 = (IsUtf8-from_ascii (b ∷ 61 �
 
 -- ---- tokens
 
-blank_within : (rest : List ℕ) → Begins rest front.Blank → 1 ≤ length rest
+pub blank_within : (rest : List ℕ) → Begins rest front.Blank → 1 ≤ length rest
 blank_within _ (separated b rest is) = omega arith
 
-token_within : (rest : List ℕ) (k : Kind) (len : ℕ) → Begins rest (front.Piece k len) → len ≤ length rest
+pub token_within : (rest : List ℕ) (k : Kind) (len : ℕ) → Begins rest (front.Piece k len) → len ≤ length rest
 token_within _ _ _ (token k piece after is rest split) = omega (arith, ap length split, length-append piece after)
+
+-- the text cut further on
+pub moved : (text : List ℕ) (n len : ℕ) (before rest : List ℕ) → text ≡ before ++ rest → n ≡ length before → len ≤ length rest → (text ≡ (before ++ take len rest) ++ drop len rest) × (n + len ≡ length (before ++ take len rest))
+moved text n len before rest e place within = (
+  e ∙ (ap (λ l. before ++ l) (sym (take-append-drop len rest)) ∙ sym (append_assoc before (take len rest) (drop len rest))),
+  omega (arith, length-append before (take len rest), length-take len rest),
+)
 
 module _ (text : List ℕ) (utf8 : IsUtf8 text) where
   cut_first : (n : ℕ) (before : List ℕ) (k : Kind) (piece rest : List ℕ) → text ≡ before ++ (piece ++ rest) → n ≡ length before → IsToken k piece rest →
@@ -139,21 +146,14 @@ module _ (text : List ℕ) (utf8 : IsUtf8 text) where
   front_split : (n : ℕ) (before rest : List ℕ) (k : Kind) (len : ℕ) → text ≡ before ++ rest → n ≡ length before → Begins rest (front.Piece k len) → IsPiece text (record { kind = k; from = n; upto = n + len })
   front_split n before _ _ _ e place (token k piece after is rest split) = cut_first n before k piece after (e ∙ ap (λ l. before ++ l) split) place is
 
-  -- the text cut further on
-  moved : (n len : ℕ) (before rest : List ℕ) → text ≡ before ++ rest → n ≡ length before → len ≤ length rest → (text ≡ (before ++ take len rest) ++ drop len rest) × (n + len ≡ length (before ++ take len rest))
-  moved n len before rest e place within = (
-    e ∙ (ap (λ l. before ++ l) (sym (take-append-drop len rest)) ∙ sym (append_assoc before (take len rest) (drop len rest))),
-    omega (arith, length-append before (take len rest), length-take len rest),
-  )
-
   pieces : (n : ℕ) (rest : List ℕ) (cut : Cut) → Cuts n rest cut → (before : List ℕ) → text ≡ before ++ rest → n ≡ length before → IfOk cut (All (IsPiece text))
   pieces _ _ _ (at_end n rest is) before e place = λ k d h. absurd (let none : k < 0 = h in omega arith)
   pieces _ _ _ (past_blank n rest cut is on) before e place =
-      let m = moved n 1 before rest e place (blank_within rest is) in
+      let m = moved text n 1 before rest e place (blank_within rest is) in
       pieces (n + 1) (drop 1 rest) cut on (before ++ take 1 rest) m.0 m.1
   pieces _ _ _ (past_token n rest cut k len is on) before e place =
       with_all (record { kind = k; from = n; upto = n + len }) cut (front_split n before rest k len e place is)
-      (let m = moved n len before rest e place (token_within rest k len is) in pieces (n + len) (drop len rest) cut on (before ++ take len rest) m.0 m.1)
+      (let m = moved text n len before rest e place (token_within rest k len is) in pieces (n + len) (drop len rest) cut on (before ++ take len rest) m.0 m.1)
   pieces _ _ _ (bad_byte n rest at is) before e place = tt
   pieces _ _ _ (left_open n rest is) before e place = tt
 

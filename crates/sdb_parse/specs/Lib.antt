@@ -1,10 +1,14 @@
 pub mod Conditions
+pub mod Fits
 pub mod Grammar
 pub mod Judged
 pub mod Lawful
 pub mod Lines
 pub mod Parsed
+pub mod Patterns
+pub mod Printed
 pub mod Reading
 pub mod Signs
 pub mod Tally
 pub mod Terms
+pub mod Walks

@@ -5,13 +5,18 @@ mod condition;
 mod cursor;
 mod expr;
 mod fault;
+mod fitting;
 mod joint;
 mod judging;
 mod laws;
+mod letters;
 mod line;
+mod matching;
 mod names;
 mod pattern;
 mod predicate;
+mod printer;
+mod printing;
 mod reading;
 mod select;
 mod sign;
@@ -20,11 +25,18 @@ mod terms;
 mod test;
 
 pub use expr::{Expr, Exprs, Operand};
-pub use laws::{one_answer, one_tree};
+pub use fitting::fits;
+pub use laws::{one_answer, one_tree, printed_is_read, printed_spells};
+pub use matching::like;
 pub use pattern::Pattern;
+pub use printing::print;
 pub use reading::parse;
 pub use select::{Output, Select, Sort, SortKey};
 pub use test::Test;
 
 #[cfg(test)]
 mod tests;
+#[cfg(test)]
+mod tests_of_printing;
+#[cfg(test)]
+mod tests_of_values;

@@ -12,7 +12,7 @@ use Rattle.sdb_record.specs.Stands.{Ground, no_ground, HasGround, reached, has_s
 use Rattle.sdb_record.proofs.RecordLaws.{no_spelling_begins_another}
 
 -- ---- a journal has one list of groups
-be32_same : (m n : ℕ) (xs ys : List ℕ) → m < 2 ^ 32 → n < 2 ^ 32 → be32 m ++ xs ≡ be32 n ++ ys → m ≡ n
+pub be32_same : (m n : ℕ) (xs ys : List ℕ) → m < 2 ^ 32 → n < 2 ^ 32 → be32 m ++ xs ≡ be32 n ++ ys → m ≡ n
 be32_same m n xs ys small small_too same =
     let a : m / 65536 / 256 ≡ n / 65536 / 256 = ap (λ l. get_or l 0 0) same in
     let b : m / 65536 % 256 ≡ n / 65536 % 256 = ap (λ l. get_or l 1 0) same in
@@ -109,6 +109,14 @@ stand_for_one c a b n m stands also =
     let other = on_none b m c also in
     let same : one.groups ≡ other.groups = journal_one 0 0 one.groups other.groups (c 2) one.journal other.journal in
     (one.accounts_are ∙ ap (reached no_ground) same ∙ sym other.accounts_are, one.number_is ∙ ap (last 0) same ∙ sym other.number_is)
+
+pub groups_lead_there : (c : Files) (a : DomainEntries) (n : ℕ) (g : Ground) (groups : List Group) → StandsFor a n c → HasGround g c
+    → JournalHas g.generation g.first groups (c (journal_of g.generation)) → (a ≡ reached g groups) × (n ≡ last g.first groups)
+groups_lead_there c a n g groups stands has journal =
+    let one = on_none a n c stands in
+    let own : JournalHas 0 0 groups (c 2) = subst (λ h. JournalHas h.generation h.first groups (c (journal_of h.generation))) has.none journal in
+    let same : one.groups ≡ groups = journal_one 0 0 one.groups groups (c 2) one.journal own in
+    (one.accounts_are ∙ ap (reached no_ground) same ∙ ap (λ h. reached h groups) (sym has.none), one.number_is ∙ ap (last 0) same ∙ ap (λ h. last h.first groups) (sym has.none))
 
 pub ground_stays : (g : Ground) (c d : Files) → SameBut (journal_of g.generation) c d → HasGround g c → HasGround g d
 ground_stays g c d same has =

@@ -1,5 +1,5 @@
 // Laws of what the files of a store stand for, each the contract of a function.
-ghost use Rattle.sdb_record.specs.StandsLaws.{EmptyFilesStand, FineFilesStand, GroundStays, NoneIsBad, OneIsFirstBad, StandForOne};
+ghost use Rattle.sdb_record.specs.StandsLaws.{EmptyFilesStand, FineFilesStand, GroundStays, GroupsLeadThere, NoneIsBad, OneIsFirstBad, StandForOne};
 
 /// What a journal stands on stays, whatever is written to the journal itself.
 pub fn ground_stays()
@@ -9,6 +9,11 @@ pub fn ground_stays()
 /// Files stand for one accounts and one number.
 pub fn stand_for_one()
     ensures { StandForOne }
+{}
+
+/// Any groups that a journal has on its base lead to what the files stand for.
+pub fn groups_lead_there()
+    ensures { GroupsLeadThere }
 {}
 
 /// Files that stand for accounts have no bad file among them.

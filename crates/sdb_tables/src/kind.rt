@@ -5,7 +5,7 @@ ghost use Rattle.std.specs.Char.{to_ascii_lowercase};
 ghost use Rattle.std.specs.List.{list_all};
 ghost use Rattle.std.specs.Str.{bytes_eq};
 ghost use Rattle.sdb_base.specs.Names.{is_domain_char, is_domain_name, is_name};
-ghost use Rattle.sdb_tables.specs.Kinds.{fits, is_flag, is_number};
+ghost use Rattle.sdb_tables.specs.Kinds.{fits, is_flag, is_number, is_plain};
 
 use sdb_base::read_decimal;
 
@@ -20,7 +20,7 @@ pub enum FieldKind {
     Flag,
     /// A decimal number without leading zeros, from the first to the second.
     Number(u64, u64),
-    /// A text of at most so many bytes.
+    /// A text of at most so many bytes. As every text, it is UTF-8.
     Plain(u64),
 }
 
@@ -33,7 +33,7 @@ pub(crate) fn fits(kind: FieldKind, text: &str) -> bool
         FieldKind::Name => is_name(text),
         FieldKind::Flag => is_flag(text),
         FieldKind::Number(least, most) => is_number(text, least, most),
-        FieldKind::Plain(most) => text.len() as u64 <= most,
+        FieldKind::Plain(most) => is_plain(text, most),
     }
 }
 
@@ -81,4 +81,10 @@ fn is_number(text: &str, least: u64, most: u64) -> bool
         Some(number) => least <= number,
         None => false,
     }
+}
+
+fn is_plain(text: &str, most: u64) -> bool
+    ensures { result ≡ is_plain most text.now }
+{
+    text.len() as u64 <= most
 }

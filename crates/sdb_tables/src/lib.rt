@@ -9,7 +9,7 @@ mod rules;
 pub use faults::{FAULTS, FaultRow, fault_row, fault_table};
 pub use kind::FieldKind;
 pub use refusal::Refusal;
-pub use rules::{Fields, ParamRow, Rules, read_rules};
+pub use rules::{Fields, ParamRow, Rules, read_field, read_rules};
 
 #[cfg(test)]
 mod tests;

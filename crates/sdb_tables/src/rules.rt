@@ -1,9 +1,9 @@
 //! Rows of fields, and what parameters give by them.
 
-ghost use Rattle.std.specs.Prelude.{◌≡◌, ◌<◌, length, slice_get, IfOk, MatchResult};
+ghost use Rattle.std.specs.Prelude.{◌≡◌, ◌<◌, length, map, slice_get, IfErr, IfOk};
 ghost use Rattle.std.specs.Option.{option_copied};
 ghost use Rattle.sdb_tables.specs.Answers.{Answers};
-ghost use Rattle.sdb_tables.specs.Rules.{field_of, fields_of};
+ghost use Rattle.sdb_tables.specs.Rules.{fields_by, judged, seen};
 
 use crate::kind::{FieldKind, fits};
 use crate::refusal::Refusal;
@@ -27,64 +27,64 @@ pub struct Rules<const N: usize> {
     pub rows: [ParamRow; N],
 }
 
-/// The values of a request's fields, one for each row of its rules. Contracts see a list of optional texts.
+/// The values of a request's fields, one for each row of its rules, lent by the parameters. Contracts see a
+/// list of optional texts.
 #[derive(Debug, Drop)]
-pub struct Fields {
-    values: List<Option<Text>>,
+pub struct Fields<'p> {
+    values: List<Option<&'p Text>>,
 }
 
-impl Model for Fields {
-    ghost use Rattle.std.specs.Prelude.{List as Items, ℕ, Option};
+impl<'p> Model for Fields<'p> {
+    ghost use Rattle.std.specs.Prelude.{List as Items, ℕ, Option, map};
+    ghost use Rattle.std.specs.Option.{option_copied};
 
     ghost Value = { Items (Option (Items ℕ)) };
 
-    ghost view = { λ fields. fields.values };
+    ghost view = { λ fields. map option_copied fields.values };
 }
 
-impl Fields {
+impl<'p> Fields<'p> {
     /// The value of the field at `place`, counted from 0, where the request has it.
-    pub fn at(&self, place: usize) -> Option<&Text>
+    pub fn at(&self, place: usize) -> Option<&'p Text>
         requires { place < length self.now }
         ensures { slice_get self.now place ≡ Some (option_copied result) }
     {
-        self.values.at(place).as_ref()
+        *self.values.at(place)
     }
 }
 
 /// Reads the `N` fields that the rows name. The rows are checked in order, and the first that fails
 /// decides: `MissingParameter` where a needed one is absent, `InvalidParameterValue` where a value isn't
 /// of its kind.
-pub fn read_rules<const N: usize>(
+#[tactic(auto, unfolding(crate::specs::Rules::fields_by))]
+pub fn read_rules<'p, const N: usize>(
     alloc: Global,
     rows: &[ParamRow],
-    params: &Params,
-) -> Result<Fields, Refusal>
+    params: &'p Params,
+) -> Result<Fields<'p>, Refusal>
     requires { length rows.now ≡ N }
-    ensures answer { Answers (fields_of params.now rows.now) result }
+    ensures answer { Answers (fields_by params.now (map seen rows.now)) result }
     ensures count { IfOk result (λ fields. length fields ≡ N) }
 {
     let mut values = List::new(alloc);
     for row in rows {
-        values.push(read_field(alloc, row, params)?)?;
+        values.push(read_field(row, params.get(row.name))?)?;
     }
     Ok(Fields { values })
 }
 
-fn read_field(alloc: Global, row: &ParamRow, params: &Params) -> Result<Option<Text>, Refusal>
-    ensures { Answers (field_of params.now row.now) result }
+/// The field that a row makes of its parameter's value, which is `None` where there is no such parameter. It takes
+/// no memory.
+///
+/// # Errors
+///
+/// `MissingParameter` where the row needs a value and there is none, `InvalidParameterValue` where the value isn't
+/// of the row's kind.
+pub fn read_field<'p>(row: &ParamRow, value: Option<&'p Text>) -> Result<Option<&'p Text>, Refusal>
+    ensures ok { IfOk result (λ field. judged (seen row.now) (option_copied value.entry) ≡ Ok (option_copied field)) }
+    ensures err { IfErr result (λ refusal. judged (seen row.now) (option_copied value.entry) ≡ Err refusal) }
 {
-    match field_of(row, params)? {
-        Some(text) => Ok(Some(text.copy(alloc)?)),
-        None => Ok(None),
-    }
-}
-
-fn field_of<'p>(row: &ParamRow, params: &'p Params) -> Result<Option<&'p Text>, Refusal>
-    ensures { MatchResult result
-        (λ field. field_of params.now row.now ≡ Ok (option_copied field))
-        (λ refusal. field_of params.now row.now ≡ Err refusal) }
-{
-    match params.get(row.name) {
+    match value {
         None if row.needed => Err(Refusal::MissingParameter),
         None => Ok(None),
         Some(text) if fits(row.kind, text.as_str()) => Ok(Some(text)),

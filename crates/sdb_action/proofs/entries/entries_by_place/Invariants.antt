@@ -1,8 +1,8 @@
-use Rattle.std.proofs.Common.{◌≡◌, ℕ, take}
+use Rattle.std.proofs.Common.{◌≡◌, ℕ, map, take}
 use Rattle.std.specs.BTreeMap.{get}
 use Rattle.std.specs.Ordering.{nat_cmp}
 use Rattle.sdb_action.specs.Entries.{entry_at}
 use Rattle.sdb_action.proofs.entries.entries_by_place.Given as goal
 
-abbrev pub invariant-loop-i : goal.invariant-loop-i
-invariant-loop-i l = (q : ℕ) → get nat_cmp l.map q ≡ entry_at l.kind (take l.i l.params) q
+abbrev pub invariant-loop-pair : goal.invariant-loop-pair
+invariant-loop-pair g l = (q : ℕ) → get nat_cmp l.all q ≡ entry_at l.kind (map g.P.NamedValue.named (take l.pair-index l.pairs)) q

@@ -1,6 +1,0 @@
-use Rattle.std.proofs.Common.{◌≡◌, drop}
-use Rattle.sdb_base.specs.Decimal.{value_after}
-use Rattle.sdb_http.proofs.verdict.length_in.Given as goal
-
-abbrev pub invariant-loop-digit : goal.invariant-loop-digit
-invariant-loop-digit l = value_after l.number (drop l.digit-index l.value) ≡ value_after 0 l.value

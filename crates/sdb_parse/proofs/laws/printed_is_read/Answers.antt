@@ -1,0 +1,5 @@
+use Rattle.sdb_parse.proofs.PrintedLaws as laws
+use Rattle.sdb_parse.proofs.laws.printed_is_read.Goals as goal
+
+pub returns : goal.returns
+returns c = laws.printed_is_read

@@ -1,0 +1,5 @@
+pub mod DigitsLemmas
+pub mod EscapeLemmas
+pub mod FaultLemmas
+pub mod FramedLemmas
+pub mod LoopLemmas

@@ -1,0 +1,9 @@
+pub mod DrawLemmas
+pub mod FrontLemmas
+pub mod HeldLemmas
+pub mod OneReading
+pub mod ReadingLemmas
+pub mod RequestLemmas
+pub mod Spells
+pub mod Stays
+pub mod WorkloadLemmas

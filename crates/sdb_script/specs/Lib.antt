@@ -1,0 +1,14 @@
+pub mod Connections
+pub mod Draws
+pub mod Events
+pub mod Fronts
+pub mod Held
+pub mod Lawful
+pub mod Letters
+pub mod Lines
+pub mod Reading
+pub mod Requests
+pub mod Scripts
+pub mod Shown
+pub mod Spelled
+pub mod Workload
