@@ -1,10 +1,11 @@
 // What a write does, or why it is refused.
-ghost use Rattle.std.specs.Prelude.{◌≡◌, [], ◌∷◌, map, IfOk, IfErr};
+ghost use Rattle.std.specs.Prelude.{◌≡◌, [], ◌∷◌, map, Some, None, IfOk, IfErr, MatchResult};
 ghost use Rattle.std.specs.Option.{option_copied};
 ghost use Rattle.sdb_tables.specs.Answers.{Answers};
 ghost use Rattle.sdb_write.specs.Changes.{decision, edit_of};
 ghost use Rattle.sdb_write.specs.ItemWrites.{put_write, drop_write};
-ghost use Rattle.sdb_write.specs.Writes.{IsWriteRequest, IsWriteRefusal};
+ghost use Rattle.sdb_pairs.specs.Accounts.{items_of};
+ghost use Rattle.sdb_write.specs.Writes.{batch_refusal, IsWriteRequest, IsWriteRefusal};
 
 use crate::expectation::check;
 use crate::ops::{drop_ops, put_ops};
@@ -54,9 +55,7 @@ pub fn decide(
             Ok(one_edit(alloc, account, domain, &item.name, ops)?)
         }
         Request::BatchPut(domain, items) => {
-            if accounts.domain(account, domain).is_none() {
-                return Err(Refusal::NoSuchDomain);
-            }
+            find_domain(accounts, account, domain)?;
             Ok(put_edits(alloc, account, domain, items.as_slice())?)
         }
         Request::Delete(domain, item, expect) => {
@@ -66,12 +65,22 @@ pub fn decide(
             Ok(one_edit(alloc, account, domain, &item.name, ops)?)
         }
         Request::BatchDelete(domain, items) => {
-            if accounts.domain(account, domain).is_none() {
-                return Err(Refusal::NoSuchDomain);
-            }
+            find_domain(accounts, account, domain)?;
             Ok(drop_edits(alloc, account, domain, items.as_slice())?)
         }
         _ => unreachable!(),
+    }
+}
+
+// Whether the domain of a batch is there.
+fn find_domain(accounts: &Accounts, account: AccountId, domain: &Text) -> Result<(), Refusal>
+    ensures { MatchResult result
+        (λ _. batch_refusal (items_of accounts.now account domain.now) ≡ None)
+        (λ refusal. batch_refusal (items_of accounts.now account domain.now) ≡ Some refusal) }
+{
+    match accounts.domain(account, domain) {
+        Some(_) => Ok(()),
+        None => Err(Refusal::NoSuchDomain),
     }
 }
 
