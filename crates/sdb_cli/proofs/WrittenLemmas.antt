@@ -7,7 +7,7 @@ use Rattle.sdb_action.specs.declared.request.Request.{Request}
 use Rattle.sdb_action.specs.declared.request.Request.TheVariants.{CreateDomain, DeleteDomain, ListDomains, DomainMetadata, Put, BatchPut, Get, Delete, BatchDelete, Select}
 use Rattle.sdb_tables.specs.declared.refusal.Refusal.{Refusal}
 use Rattle.sdb_write.specs.Changes.{changes, decision, in_place_of}
-use Rattle.sdb_write.specs.Writes.{write, IsSingleWrite, IsWrite, IsWriteRequest}
+use Rattle.sdb_write.specs.Writes.{write, IsSingleWrite, IsWrite}
 use Rattle.sdb_write.proofs.WriteLemmas.{writes_are_changes}
 
 single-write : (request : Request) → IsSingleWrite request → IsWrite request
@@ -21,18 +21,6 @@ single-write (DomainMetadata domain) single = absurd single
 single-write (BatchPut domain items) single = absurd single
 single-write (BatchDelete domain items) single = absurd single
 single-write (Select expression token) single = absurd single
-
-pub single-request : (request : Request) → IsSingleWrite request → IsWriteRequest request
-single-request (CreateDomain domain) single = tt
-single-request (DeleteDomain domain) single = tt
-single-request (Put domain item expected) single = tt
-single-request (Delete domain item expected) single = tt
-single-request (Get domain item names) single = absurd single
-single-request (ListDomains most token) single = absurd single
-single-request (DomainMetadata domain) single = absurd single
-single-request (BatchPut domain items) single = absurd single
-single-request (BatchDelete domain items) single = absurd single
-single-request (Select expression token) single = absurd single
 
 pub decided-done : (accounts new : DomainEntries) (account : ℕ) (request : Request) (cs : List Change) → IsSingleWrite request → AreAccounts accounts
     → decision accounts account request ≡ Ok cs → new ≡ state accounts cs → write accounts account request ≡ Ok new

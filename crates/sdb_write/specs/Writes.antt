@@ -1,5 +1,5 @@
 -- What a write makes of the accounts: the first refusal, or the new accounts.
-use Rattle.std.specs.Prelude.{ℕ, List, [], ◌∷◌, Option, Some, None, Result, Ok, Err, map, if◌then◌else◌}
+use Rattle.std.specs.Prelude.{ℕ, List, [], ◌∷◌, Option, Some, None, Result, Ok, Err, map, if◌then◌else◌, ◌⊎◌}
 use Rattle.sdb_action.specs.declared.request.Expect.{Expect}
 use Rattle.sdb_action.specs.declared.request.Request.{Request}
 use Rattle.sdb_action.specs.declared.request.Request.TheVariants.{CreateDomain, DeleteDomain, Put, BatchPut, Delete, BatchDelete}
@@ -66,16 +66,6 @@ IsWrite (Delete domain item expect) = Unit {0}
 IsWrite (BatchDelete domain items) = NamesApart (map drop_write items)
 IsWrite _ = ⊥
 
--- one of the six requests that write
-abbrev pub IsWriteRequest : Request → Type 0
-IsWriteRequest (CreateDomain domain) = Unit {0}
-IsWriteRequest (DeleteDomain domain) = Unit {0}
-IsWriteRequest (Put domain item expect) = Unit {0}
-IsWriteRequest (BatchPut domain items) = Unit {0}
-IsWriteRequest (Delete domain item expect) = Unit {0}
-IsWriteRequest (BatchDelete domain items) = Unit {0}
-IsWriteRequest _ = ⊥
-
 -- a write that is no batch
 abbrev pub IsSingleWrite : Request → Type 0
 IsSingleWrite (CreateDomain domain) = Unit {0}
@@ -83,6 +73,16 @@ IsSingleWrite (DeleteDomain domain) = Unit {0}
 IsSingleWrite (Put domain item expect) = Unit {0}
 IsSingleWrite (Delete domain item expect) = Unit {0}
 IsSingleWrite _ = ⊥
+
+-- a batch
+abbrev pub IsBatch : Request → Type 0
+IsBatch (BatchPut domain items) = Unit {0}
+IsBatch (BatchDelete domain items) = Unit {0}
+IsBatch _ = ⊥
+
+-- one of the six requests that write
+abbrev pub IsWriteRequest : Request → Type 0
+IsWriteRequest request = IsSingleWrite request ⊎ IsBatch request
 
 -- the refusals of a write, and want of memory
 abbrev pub IsWriteRefusal : Refusal → Type 0

@@ -2,11 +2,8 @@ use Rattle.std.proofs.Common.{◌≡◌, Ok, sym, ap}
 use Rattle.std.proofs.lemmas.Result.{on_ok_weaker}
 use Rattle.sdb_write.specs.Writes.{write}
 use Rattle.sdb_cli.specs.Plain.{account, after_written}
-use Rattle.sdb_cli.proofs.WrittenLemmas.{decided-done, single-request}
+use Rattle.sdb_cli.proofs.WrittenLemmas.{decided-done}
 use Rattle.sdb_cli.proofs.answer.write.Goals as goal
-
-pub decide-requires : goal.decide-requires
-decide-requires c = single-request c.args.request.now c.requires
 
 pub returns-clause-accounts : goal.returns-clause-accounts
 returns-clause-accounts c =
