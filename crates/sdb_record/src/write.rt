@@ -24,6 +24,7 @@ fn append_u32(out: &mut Bytes, number: u32) -> Result<(), OutOfMemory>
     append_u16(out, (number % 65536) as u16)
 }
 
+#[inline(always)]
 fn append_text(out: &mut Bytes, text: &Text) -> Result<(), OutOfMemory>
     requires { length text.now < 2 ^ 16 }
     ensures { OnOk result (out.new.bytes ≡ out.old.bytes ++ text_bytes text.now) }
@@ -33,20 +34,40 @@ fn append_text(out: &mut Bytes, text: &Text) -> Result<(), OutOfMemory>
     out.append(bytes)
 }
 
-fn append_place(out: &mut Bytes, account: AccountId, domain: &Text) -> Result<(), OutOfMemory>
+// A tag, and a text behind its length.
+#[inline(always)]
+fn append_tagged(out: &mut Bytes, tag: u8, text: &Text) -> Result<(), OutOfMemory>
+    requires { length text.now < 2 ^ 16 }
+    ensures { OnOk result (out.new.bytes ≡ out.old.bytes ++ tag ∷ text_bytes text.now) }
+{
+    let bytes = text.as_str().as_bytes();
+    let size = bytes.len() as u16;
+    out.append(&[tag, (size / 256) as u8, (size % 256) as u8])?;
+    out.append(bytes)
+}
+
+// A change's tag, an account and a domain.
+fn append_place(
+    out: &mut Bytes,
+    tag: u8,
+    account: AccountId,
+    domain: &Text,
+) -> Result<(), OutOfMemory>
     requires { length domain.now < 2 ^ 8 }
-    ensures { OnOk result (out.new.bytes ≡ out.old.bytes ++ place_bytes account domain.now) }
+    ensures { OnOk result (out.new.bytes ≡ out.old.bytes ++ tag ∷ place_bytes account domain.now) }
 {
     let name = domain.as_str().as_bytes();
-    out.append(&[account.0, name.len() as u8])?;
+    out.append(&[tag, account.0, name.len() as u8])?;
     out.append(name)
 }
 
-fn append_pair(out: &mut Bytes, pair: &Pair) -> Result<(), OutOfMemory>
+// A tag, and a pair.
+#[inline(always)]
+fn append_pair(out: &mut Bytes, tag: u8, pair: &Pair) -> Result<(), OutOfMemory>
     requires { IsLawfulPair pair.now }
-    ensures { OnOk result (out.new.bytes ≡ out.old.bytes ++ pair_bytes pair.now) }
+    ensures { OnOk result (out.new.bytes ≡ out.old.bytes ++ tag ∷ pair_bytes pair.now) }
 {
-    append_text(out, &pair.name)?;
+    append_tagged(out, tag, &pair.name)?;
     append_text(out, &pair.value)
 }
 
@@ -55,18 +76,9 @@ fn append_op(out: &mut Bytes, op: &Op) -> Result<(), OutOfMemory>
     ensures { OnOk result (out.new.bytes ≡ out.old.bytes ++ op_bytes op.now) }
 {
     match op {
-        Op::AddPair(pair) => {
-            out.append(&[0])?;
-            append_pair(out, pair)
-        }
-        Op::DropPair(pair) => {
-            out.append(&[1])?;
-            append_pair(out, pair)
-        }
-        Op::DropName(name) => {
-            out.append(&[2])?;
-            append_text(out, name)
-        }
+        Op::AddPair(pair) => append_pair(out, 0, pair),
+        Op::DropPair(pair) => append_pair(out, 1, pair),
+        Op::DropName(name) => append_tagged(out, 2, name),
         Op::DropAll => out.append(&[3]),
     }
 }
@@ -87,24 +99,17 @@ fn append_change(out: &mut Bytes, change: &Change) -> Result<(), OutOfMemory>
     ensures { OnOk result (out.new.bytes ≡ out.old.bytes ++ change_bytes change.now) }
 {
     match change {
-        Change::MakeDomain(account, domain) => {
-            out.append(&[0])?;
-            append_place(out, *account, domain)
-        }
-        Change::DropDomain(account, domain) => {
-            out.append(&[1])?;
-            append_place(out, *account, domain)
-        }
+        Change::MakeDomain(account, domain) => append_place(out, 0, *account, domain),
+        Change::DropDomain(account, domain) => append_place(out, 1, *account, domain),
         Change::Edit(account, domain, item, ops) => {
-            out.append(&[2])?;
-            append_place(out, *account, domain)?;
+            append_place(out, 2, *account, domain)?;
             append_text(out, item)?;
             append_ops(out, ops)
         }
     }
 }
 
-/// How many bytes a text takes.
+// How many bytes a text takes.
 fn text_size(text: &Text) -> usize {
     text.as_str().len().saturating_add(2)
 }
