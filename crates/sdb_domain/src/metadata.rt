@@ -1,3 +1,4 @@
+// The numbers of a domain that DomainMetadata answers.
 /// Numbers that describe a domain (SimpleDB Developer Guide, DomainMetadata).
 #[derive(Clone, Copy, Debug, PartialEq, Eq)]
 pub struct Metadata {

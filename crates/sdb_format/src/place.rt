@@ -3,7 +3,7 @@ ghost use Rattle.std.specs.Prelude.{◌≡◌, option_copied};
 ghost use Rattle.std.specs.Str.Lossy.{second_byte_min, second_byte_max};
 ghost use Rattle.sdb_format.specs.Letters.{after_first, after_byte};
 
-/// `left` bytes of the character are to come, none between characters, and the next is from `least` to `most`.
+// `left` bytes of the character are to come, none between characters, and the next is from `least` to `most`.
 #[derive(Clone, Copy)]
 pub(crate) struct Place {
     pub(crate) least: u8,
@@ -31,7 +31,7 @@ fn most_second(first: u8) -> u8
     }
 }
 
-/// The place after a character's first byte, where it can be one.
+// The place after a character's first byte, where it can be one.
 fn after_first(first: u8) -> Option<Place>
     ensures { result ≡ after_first first }
 {
@@ -56,7 +56,7 @@ fn after_first(first: u8) -> Option<Place>
     })
 }
 
-/// The place after the byte, where it may stand here.
+// The place after the byte, where it may stand here.
 pub(crate) fn after_byte(place: Place, byte: u8) -> Option<Place>
     ensures { result ≡ after_byte place byte }
 {

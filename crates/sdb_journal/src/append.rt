@@ -9,7 +9,7 @@ ghost use Rattle.sdb_journal.specs.Appends.{body_of, BeforeOrAfter, Appended};
 use crate::frame::fill;
 use sdb_disk::{Disk, DiskFault, write_durably};
 
-/// Writes a record with that number behind the gate, and then opens the gate.
+// Writes a record with that number behind the gate, and then opens the gate.
 pub(crate) fn append_at<D: Disk>(
     file: u8,
     gate: u64,

@@ -36,7 +36,7 @@ fn shut<D: Disk>(disk: &mut D) -> Result<(), DiskFault>
     Ok(())
 }
 
-/// Makes a journal of generation 0 without records.
+// Makes a journal of generation 0 without records.
 pub(crate) fn make_first<D: Disk>(disk: &mut D) -> Result<(), DiskFault>
     requires closed { IsTrue (D.state disk.old).told → IsClosed 26 ((D.state disk.old).seen 2) }
     requires settled { SettledFile (D.state disk.old) 2 }

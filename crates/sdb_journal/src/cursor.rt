@@ -183,8 +183,8 @@ fn record_at<D: Disk>(
     }
 }
 
-/// The changes of all records ahead, one list after the other, and the number of the last record. The window stands
-/// at the gate behind them.
+// The changes of all records ahead, one list after the other, and the number of the last record. The window stands
+// at the gate behind them.
 pub(crate) fn read_records<D: Disk>(
     alloc: Global,
     file: u8,

@@ -5,7 +5,7 @@ ghost use Rattle.sdb_journal.specs.Appends.{body_of};
 
 use crate::numbers::record_head;
 
-/// Fills in the body's length, the record's number, and a closed gate.
+// Fills in the body's length, the record's number, and a closed gate.
 pub(crate) fn fill(frame: &mut [u8], number: u64)
     requires least { 13 ≤ length frame.old }
     requires most { length frame.old < 2 ^ 32 + 13 }

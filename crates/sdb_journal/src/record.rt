@@ -9,8 +9,8 @@ use sdb_pairs::Changes;
 use sdb_record::{RecordFault, read_changes};
 use std::alloc::Global;
 
-/// The size of the body behind that head, where it is the head of a record with that number. The bytes are those of the
-/// size read exactly where the number is right.
+// The size of the body behind that head, where it is the head of a record with that number. The bytes are those of the
+// size read exactly where the number is right.
 pub(crate) fn size_in(head: &[u8], number: u64) -> Option<u32>
     requires { length head.now ≡ 12 }
     ensures some { IfSome result (λ size. head.now ≡ be32 size ++ be64 number) }
@@ -25,7 +25,7 @@ pub(crate) fn size_in(head: &[u8], number: u64) -> Option<u32>
     }
 }
 
-/// The changes whose bytes these are.
+// The changes whose bytes these are.
 pub(crate) fn changes_in(alloc: Global, body: &[u8]) -> Result<Option<Changes>, OutOfMemory>
     requires { length body.now < 2 ^ 32 }
     ensures some { IfOk result (λ found. IfSome found (λ changes. IsGroup changes body.now)) }

@@ -8,7 +8,7 @@ use std::alloc::Global;
 // How many bytes are read at a time, where so many are left.
 const PIECE: u64 = 65536;
 
-/// The bytes of a file ahead of a place in it, as far as they were read, and how many are left behind them.
+// The bytes of a file ahead of a place in it, as far as they were read, and how many are left behind them.
 #[derive(Debug, Drop)]
 pub(crate) struct Window {
     bytes: Vec<u8>,
@@ -22,7 +22,7 @@ pub(crate) struct Window {
 impl Window {
     ghost use Rattle.sdb_journal.specs.Windows.{ahead, Shows};
 
-    /// At a place of which so many bytes are left. Nothing is read yet.
+    // At a place of which so many bytes are left. Nothing is read yet.
     pub(crate) fn new(alloc: Global, place: u64, left: u64) -> Window
         requires { place + left ≤ 2 ^ 62 }
         ensures ahead { ahead result ≡ [] }
@@ -37,7 +37,7 @@ impl Window {
         }
     }
 
-    /// The place in the file.
+    // The place in the file.
     pub(crate) fn place(&self) -> u64
         ensures place { result ≡ self.now.place }
         ensures bound { result ≤ 2 ^ 62 }
@@ -52,7 +52,7 @@ impl Window {
         &self.bytes[self.start..end]
     }
 
-    /// Goes so many bytes further.
+    // Goes so many bytes further.
     pub(crate) fn pass(&mut self, count: usize)
         requires { count ≤ length (ahead self.old) }
         ensures ahead { ahead self.new ≡ drop count (ahead self.old) }
@@ -63,7 +63,7 @@ impl Window {
         self.place += count as u64;
     }
 
-    /// Whether so many bytes stand ahead in the file. Those that are needed for it are read.
+    // Whether so many bytes stand ahead in the file. Those that are needed for it are read.
     pub(crate) fn reaches<D: Disk>(
         &mut self,
         file: u8,

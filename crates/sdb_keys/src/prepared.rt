@@ -29,7 +29,7 @@ impl Model for PreparedKey {
 }
 
 impl PreparedKey {
-    /// Prepares a secret. It takes no memory.
+    // Prepares a secret. It takes no memory.
     pub(crate) fn new(secret: Text) -> PreparedKey
         ensures { result ≡ secret }
     {

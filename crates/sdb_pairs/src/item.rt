@@ -57,7 +57,7 @@ impl Item {
         &self.pairs[start..end]
     }
 
-    /// A second item of the same pairs, with room for so many.
+    // A second item of the same pairs, with room for so many.
     pub(crate) fn copy(&self, alloc: Global, room: usize) -> Result<Item, OutOfMemory>
         ensures { IfOk result (λ copied. copied ≡ self.now) }
     {
@@ -68,7 +68,7 @@ impl Item {
         Ok(Item { pairs })
     }
 
-    /// Applies one operation.
+    // Applies one operation.
     pub(crate) fn take(&mut self, alloc: Global, op: &Op) -> Result<(), OutOfMemory>
         ensures ok { OnOk result (self.new ≡ after_op self.old op.now) }
         ensures err { OnErr result (self.new ≡ self.old) }

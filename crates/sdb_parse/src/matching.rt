@@ -7,7 +7,7 @@ use crate::letters::{Letter, split_letter};
 use crate::pattern::Pattern;
 use sdb_base::Text;
 
-/// How a pattern goes on after its first plain part, which the text begins with or doesn't.
+// How a pattern goes on after its first plain part, which the text begins with or doesn't.
 #[derive(Clone, Copy, Debug)]
 enum Walk<'a, 'b> {
     // The text doesn't begin so.

@@ -175,14 +175,14 @@ const WORDS: [Row; 30] = [
 ];
 
 impl Sign {
-    /// The sign of a word or a symbol: words have one in any ASCII case, and other words are names.
+    // The sign of a word or a symbol: words have one in any ASCII case, and other words are names.
     pub(crate) fn of(piece: &[u8]) -> Sign
         ensures { result ≡ sign_of piece.now }
     {
         sign_in(&WORDS, piece)
     }
 
-    /// Whether it is the sign of a word that may be a name.
+    // Whether it is the sign of a word that may be a name.
     pub(crate) fn may_name(self) -> bool
         ensures { result ≡ may_name self }
     {

@@ -8,7 +8,7 @@ use sdb_format::{read_byte, read_u16};
 use sdb_pairs::{Change, Op, Ops};
 use std::alloc::Global;
 
-/// An operation, and the bytes after it.
+// An operation, and the bytes after it.
 fn read_op(alloc: Global, bytes: &[u8]) -> Result<(Op, &[u8]), RecordFault>
     ensures ok { IfOk result (λ x. op_at bytes.now ≡ Ok (x.0, x.1.now)) }
     ensures err { OnFault result (op_at bytes.now) }
@@ -32,7 +32,7 @@ fn read_op(alloc: Global, bytes: &[u8]) -> Result<(Op, &[u8]), RecordFault>
     }
 }
 
-/// Operations behind their number, and the bytes after them.
+// Operations behind their number, and the bytes after them.
 fn read_ops(alloc: Global, bytes: &[u8]) -> Result<(Ops, &[u8]), RecordFault>
     ensures ok { IfOk result (λ x. ops_at bytes.now ≡ Ok (x.0, x.1.now)) }
     ensures err { OnFault result (ops_at bytes.now) }

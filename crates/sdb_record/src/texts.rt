@@ -11,7 +11,7 @@ use sdb_format::{FormatFault, read_byte, read_text};
 use sdb_pairs::Pair;
 use std::alloc::Global;
 
-/// A name, and the bytes after it.
+// A name, and the bytes after it.
 pub(crate) fn read_name(alloc: Global, bytes: &[u8]) -> Result<(Text, &[u8]), RecordFault>
     ensures ok { IfOk result (λ x. name_at bytes.now ≡ Ok (x.0, x.1.now)) }
     ensures err { OnFault result (name_at bytes.now) }
@@ -20,7 +20,7 @@ pub(crate) fn read_name(alloc: Global, bytes: &[u8]) -> Result<(Text, &[u8]), Re
     Ok((Text::from_str(alloc, name)?, rest))
 }
 
-/// A value, and the bytes after it.
+// A value, and the bytes after it.
 fn read_value(alloc: Global, bytes: &[u8]) -> Result<(Text, &[u8]), RecordFault>
     ensures ok { IfOk result (λ x. value_at bytes.now ≡ Ok (x.0, x.1.now)) }
     ensures err { OnFault result (value_at bytes.now) }
@@ -29,7 +29,7 @@ fn read_value(alloc: Global, bytes: &[u8]) -> Result<(Text, &[u8]), RecordFault>
     Ok((Text::from_str(alloc, value)?, rest))
 }
 
-/// A pair, and the bytes after it.
+// A pair, and the bytes after it.
 pub(crate) fn read_pair(alloc: Global, bytes: &[u8]) -> Result<(Pair, &[u8]), RecordFault>
     ensures ok { IfOk result (λ x. pair_at bytes.now ≡ Ok (x.0, x.1.now)) }
     ensures err { OnFault result (pair_at bytes.now) }
@@ -51,7 +51,7 @@ fn are_domain_chars(bytes: &[u8]) -> bool
     bytes.iter().all(|byte| is_domain_char(*byte))
 }
 
-/// So many bytes of a domain's name, and the bytes after them.
+// So many bytes of a domain's name, and the bytes after them.
 fn read_domain_chars(bytes: &[u8], count: usize) -> Result<(&str, &[u8]), FormatFault>
     ensures ok { IfOk result (λ x. passing_at domain_char count bytes.now ≡ Ok (x.0.now, x.1.now)) }
     ensures err { IfErr result (λ fault. passing_at domain_char count bytes.now ≡ Err fault) }
@@ -73,7 +73,7 @@ fn read_domain_chars(bytes: &[u8], count: usize) -> Result<(&str, &[u8]), Format
     Ok((text, rest))
 }
 
-/// A domain's name, and the bytes after it.
+// A domain's name, and the bytes after it.
 fn read_domain(bytes: &[u8]) -> Result<(&str, &[u8]), FormatFault>
     ensures ok { IfOk result (λ x. domain_at bytes.now ≡ Ok (x.0.now, x.1.now)) }
     ensures err { IfErr result (λ fault. domain_at bytes.now ≡ Err fault) }
@@ -83,7 +83,7 @@ fn read_domain(bytes: &[u8]) -> Result<(&str, &[u8]), FormatFault>
     Ok((name, after))
 }
 
-/// An account's number and a domain's name, and the bytes after them.
+// An account's number and a domain's name, and the bytes after them.
 pub(crate) fn read_place(
     alloc: Global,
     bytes: &[u8],

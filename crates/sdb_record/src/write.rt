@@ -104,7 +104,7 @@ fn append_change(out: &mut Bytes, change: &Change) -> Result<(), OutOfMemory>
     }
 }
 
-/// How many bytes a text takes.
+// How many bytes a text takes.
 fn text_size(text: &Text) -> usize {
     text.as_str().len().saturating_add(2)
 }

@@ -8,7 +8,7 @@ use base64::engine::general_purpose::STANDARD;
 use sdb_base::{Bytes, OutOfMemory};
 use std::alloc::Global;
 
-/// Appends an element with a text.
+// Appends an element with a text.
 #[tactic(auto, using(std::proofs::Common::append_assoc))]
 pub(crate) fn append_element(
     alloc: Global,
@@ -27,8 +27,8 @@ pub(crate) fn append_element(
     Ok(())
 }
 
-/// Appends the end of a start tag and the text of its element: with its escapes, or in base64 where XML can't
-/// hold the text.
+// Appends the end of a start tag and the text of its element: with its escapes, or in base64 where XML can't
+// hold the text.
 #[tactic(auto, using(std::proofs::Common::append_assoc))]
 pub(crate) fn append_content(alloc: Global, out: &mut Bytes, text: &str) -> Result<(), OutOfMemory>
     ensures { OnOk result (out.new.bytes ≡ out.old.bytes ++ content_of text.now) }

@@ -1,3 +1,4 @@
+// Digits of numbers, padded to a width.
 ghost use Rattle.std.specs.Prelude.{◌≡◌, ◌<◌, ◌≤◌, length};
 ghost use Rattle.sdb_reply.specs.Digits.{digit as glyph, padded};
 

@@ -1,3 +1,4 @@
+// What a request came to, and the status of its response.
 ghost use Rattle.std.specs.Prelude.{◌≡◌};
 ghost use Rattle.sdb_reply.specs.Bodies.{status_of};
 ghost use Rattle.sdb_tables.specs.Faults.{IsAnswerStatus};

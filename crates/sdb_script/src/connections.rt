@@ -10,7 +10,7 @@ use std::alloc::Global;
 use std::collections::BTreeSet;
 use std::marker::Model;
 
-/// Which connections are open, and the greatest number that one had.
+// Which connections are open, and the greatest number that one had.
 #[derive(Debug, Drop)]
 pub(crate) struct Connections {
     greatest: u32,
@@ -26,7 +26,7 @@ impl Model for Connections {
 }
 
 impl Connections {
-    /// No connection was opened. It takes no memory.
+    // No connection was opened. It takes no memory.
     pub(crate) fn new(alloc: Global) -> Connections
         ensures { result ≡ none_opened }
     {
@@ -36,7 +36,7 @@ impl Connections {
         }
     }
 
-    /// Whether a record with this line may stand after the events so far.
+    // Whether a record with this line may stand after the events so far.
     pub(crate) fn may_follow(&self, line: Line) -> bool
         ensures { result ≡ follows self.now line }
     {
@@ -47,7 +47,7 @@ impl Connections {
         }
     }
 
-    /// Takes note of a connection that is opened.
+    // Takes note of a connection that is opened.
     pub(crate) fn note_opened(&mut self, conn: u32) -> Result<(), OutOfMemory>
         ensures ok { OnOk result (self.new ≡ after_event self.old (event.Opened conn)) }
         ensures err { OnErr result (self.new ≡ self.old) }
@@ -57,7 +57,7 @@ impl Connections {
         Ok(())
     }
 
-    /// Takes note of a connection that ended.
+    // Takes note of a connection that ended.
     pub(crate) fn note_ended(&mut self, conn: u32)
         ensures { self.new ≡ after_event self.old (event.Ended conn) }
     {

@@ -6,14 +6,14 @@ const MULTIPLIER: u64 = 6_364_136_223_846_793_005;
 
 const INCREMENT: u64 = 1_442_695_040_888_963_407;
 
-/// A linear congruential generator modulo 2^64, which gives the upper half of its state.
+// A linear congruential generator modulo 2^64, which gives the upper half of its state.
 #[derive(Clone, Copy, Debug, PartialEq, Eq)]
 pub(crate) struct Draws {
     pub(crate) state: u64,
 }
 
 impl Draws {
-    /// The next number, below `many`.
+    // The next number, below `many`.
     #[tactic(auto, unfolding(crate::specs::Draws::below))]
     pub(crate) fn draw(&mut self, many: u64) -> u64
         requires { 0 < many }

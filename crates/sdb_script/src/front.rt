@@ -14,18 +14,18 @@ use std::alloc::Global;
 // A line ends within so many bytes, its LF among them.
 const MOST_LINE: usize = 32;
 
-/// What stands at the front of bytes.
+// What stands at the front of bytes.
 #[derive(Debug, Drop)]
 pub(crate) enum Front {
-    /// A record, and the number of its bytes.
+    // A record, and the number of its bytes.
     Whole(ScriptEvent, usize),
-    /// A record that is wrong.
+    // A record that is wrong.
     Wrong,
-    /// Too few bytes to judge.
+    // Too few bytes to judge.
     Unjudged,
 }
 
-/// Judges the record at the front of the bytes that follow some events.
+// Judges the record at the front of the bytes that follow some events.
 #[tactic(auto, unfolding(crate::specs::Fronts::front))]
 pub(crate) fn front_of(
     alloc: Global,

@@ -10,14 +10,14 @@ use sdb_io::{Failed, Source};
 use std::alloc::Global;
 use std::marker::Model;
 
-/// How many bytes are read at most at a time.
+// How many bytes are read at most at a time.
 pub(crate) const PIECE: usize = 65_536;
 
 // What is held stands in a buffer of this size. It moves to the buffer's front only where a piece has no
 // room behind it.
 const SIZE: usize = 4 * PIECE;
 
-/// Bytes that were read and not used yet, and room for more behind them.
+// Bytes that were read and not used yet, and room for more behind them.
 #[derive(Debug, Drop)]
 pub(crate) struct HeldBytes {
     buffer: Vec<u8>,
@@ -37,7 +37,7 @@ impl Model for HeldBytes {
 }
 
 impl HeldBytes {
-    /// Nothing. It takes no memory, and later calls use this allocator.
+    // Nothing. It takes no memory, and later calls use this allocator.
     pub(crate) fn new(alloc: Global) -> HeldBytes
         ensures { result.bytes ≡ [] }
     {
@@ -60,7 +60,7 @@ impl HeldBytes {
         self.end - self.start
     }
 
-    /// Takes bytes off the front.
+    // Takes bytes off the front.
     pub(crate) fn pass(&mut self, count: usize)
         requires { count ≤ length self.old.bytes }
         ensures { self.new.bytes ≡ drop count self.old.bytes }
@@ -68,7 +68,7 @@ impl HeldBytes {
         self.start += count;
     }
 
-    /// Reads once, at most so many bytes, and puts them at the end. `Ok(0)` is the end of the input.
+    // Reads once, at most so many bytes, and puts them at the end. `Ok(0)` is the end of the input.
     pub(crate) fn fill<T: Source>(
         &mut self,
         most: usize,

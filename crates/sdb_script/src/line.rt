@@ -6,7 +6,7 @@ ghost use Rattle.std.specs.List.{position};
 
 use sdb_base::read_decimal;
 
-/// What a line says. A piece has its connection, its moment and the number of its bytes.
+// What a line says. A piece has its connection, its moment and the number of its bytes.
 #[derive(Clone, Copy, Debug, PartialEq, Eq)]
 pub(crate) enum Line {
     Opened(u32),
@@ -20,7 +20,7 @@ const MOST_MOMENT: u64 = 253_402_300_799;
 
 const MOST_PIECE: u32 = 65_536;
 
-/// What a line says, without its LF, where it is the line of a record.
+// What a line says, without its LF, where it is the line of a record.
 #[tactic(auto, unfolding(crate::specs::Lines::line_of))]
 pub(crate) fn line_of(line: &[u8]) -> Option<Line>
     ensures says { result ≡ said line.now }

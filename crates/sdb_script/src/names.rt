@@ -6,7 +6,7 @@ use crate::operation::Entry;
 use sdb_base::OutOfMemory;
 use std::alloc::Global;
 
-/// `bench` and a digit.
+// `bench` and a digit.
 #[tactic(auto, unfolding(crate::specs::Requests::domain_name))]
 pub(crate) fn domain_name(alloc: Global, domain: u64) -> Result<String, OutOfMemory>
     ensures { IfOk result (λ made. string_bytes made ≡ requests.domain_name domain) }
@@ -14,7 +14,7 @@ pub(crate) fn domain_name(alloc: Global, domain: u64) -> Result<String, OutOfMem
     Ok(format!(in alloc; "bench{domain}")?)
 }
 
-/// `i` and four digits.
+// `i` and four digits.
 #[tactic(auto, unfolding(crate::specs::Requests::item_name))]
 pub(crate) fn item_name(alloc: Global, item: u64) -> Result<String, OutOfMemory>
     ensures { IfOk result (λ made. string_bytes made ≡ requests.item_name item) }
@@ -26,7 +26,7 @@ pub(crate) fn item_name(alloc: Global, item: u64) -> Result<String, OutOfMemory>
     Ok(format!(in alloc; "i{first}{second}{third}{fourth}")?)
 }
 
-/// `a` and a digit.
+// `a` and a digit.
 #[tactic(auto, unfolding(crate::specs::Requests::attribute_name))]
 pub(crate) fn attribute_name(alloc: Global, attribute: u64) -> Result<String, OutOfMemory>
     ensures { IfOk result (λ made. string_bytes made ≡ requests.attribute_name attribute) }
@@ -34,7 +34,7 @@ pub(crate) fn attribute_name(alloc: Global, attribute: u64) -> Result<String, Ou
     Ok(format!(in alloc; "a{attribute}")?)
 }
 
-/// Five digits.
+// Five digits.
 #[tactic(auto, unfolding(crate::specs::Requests::value_text))]
 pub(crate) fn value_text(alloc: Global, value: u64) -> Result<String, OutOfMemory>
     ensures { IfOk result (λ made. string_bytes made ≡ requests.value_text value) }
@@ -47,7 +47,7 @@ pub(crate) fn value_text(alloc: Global, value: u64) -> Result<String, OutOfMemor
     Ok(format!(in alloc; "{first}{second}{third}{fourth}{fifth}")?)
 }
 
-/// The expression that asks for a domain's items with such a value or a greater one.
+// The expression that asks for a domain's items with such a value or a greater one.
 #[tactic(auto, using(std::proofs::Common::append_assoc), unfolding(crate::specs::Requests::expression))]
 pub(crate) fn expression(alloc: Global, domain: u64, entry: Entry) -> Result<String, OutOfMemory>
     ensures { IfOk result (λ made. string_bytes made ≡ requests.expression domain entry) }

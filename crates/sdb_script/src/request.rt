@@ -31,7 +31,7 @@ const RESERVED: AsciiSet = ascii_set!(
         .remove(b'~')
 );
 
-/// The request that asks for an operation, signed (signature version 2).
+// The request that asks for an operation, signed (signature version 2).
 pub(crate) fn request_of(alloc: Global, operation: Operation) -> Result<Bytes, OutOfMemory>
     ensures { IfOk result (λ made. made.bytes ≡ requests.request_of operation) }
 {

@@ -39,7 +39,7 @@ pub fn write_closed(alloc: Global, conn: u32) -> Result<Bytes, OutOfMemory>
     Ok(text)
 }
 
-/// Appends the record of a connection that is opened.
+// Appends the record of a connection that is opened.
 #[tactic(auto, using(std::proofs::Common::append_assoc), unfolding(crate::specs::Spelled::spelled))]
 pub(crate) fn append_opened(text: &mut Bytes, conn: u32) -> Result<(), OutOfMemory>
     ensures { OnOk result (text.new.bytes ≡ text.old.bytes ++ spelled (event.Opened conn)) }
@@ -49,7 +49,7 @@ pub(crate) fn append_opened(text: &mut Bytes, conn: u32) -> Result<(), OutOfMemo
     text.append(b"\n")
 }
 
-/// Appends the record of bytes that come on a connection at a moment.
+// Appends the record of bytes that come on a connection at a moment.
 #[tactic(auto, using(std::proofs::Common::append_assoc), unfolding(crate::specs::Spelled::spelled))]
 pub(crate) fn append_piece(
     text: &mut Bytes,
@@ -70,7 +70,7 @@ pub(crate) fn append_piece(
     text.append(b"\n")
 }
 
-/// Appends the record of a commit.
+// Appends the record of a commit.
 #[tactic(auto, unfolding(crate::specs::Spelled::spelled))]
 pub(crate) fn append_commit(text: &mut Bytes) -> Result<(), OutOfMemory>
     ensures { OnOk result (text.new.bytes ≡ text.old.bytes ++ spelled event.Commit) }
@@ -78,7 +78,7 @@ pub(crate) fn append_commit(text: &mut Bytes) -> Result<(), OutOfMemory>
     text.append(b"C\n")
 }
 
-/// Appends the record of a turn of background work.
+// Appends the record of a turn of background work.
 #[tactic(auto, unfolding(crate::specs::Spelled::spelled))]
 pub(crate) fn append_work(text: &mut Bytes) -> Result<(), OutOfMemory>
     ensures { OnOk result (text.new.bytes ≡ text.old.bytes ++ spelled event.Work) }

@@ -5,7 +5,7 @@ ghost use Rattle.sdb_journal.specs.Looks.{Looks, OnRefusal, OnNoMemory, HasOpenC
 
 use sdb_disk::{Disk, OpenFault};
 
-/// Refuses a file that is open: one of at least so many bytes that begins with 1.
+// Refuses a file that is open: one of at least so many bytes that begins with 1.
 pub(crate) fn require_closed<D: Disk>(file: u8, least: usize, disk: &mut D) -> Result<(), OpenFault>
     requires file { file < 4 }
     requires some { 1 ≤ least }

@@ -14,7 +14,7 @@ use crate::frame::{clear, write_count};
 use sdb_disk::{Disk, DiskFault};
 use sdb_journal::Journal;
 
-/// Appends the group in the frame to the journal, and takes it out of the frame. It takes no memory.
+// Appends the group in the frame to the journal, and takes it out of the frame. It takes no memory.
 pub(crate) fn commit_frame<D: Disk>(
     journal: &mut Journal,
     frame: &mut Vec<u8>,

@@ -76,8 +76,8 @@ fn read_journals<D: Disk>(
     }
 }
 
-/// The first journal and the changes of its records, where the files stand for something; None where it isn't there.
-/// The files are judged in the order of their numbers, and the first that breaks a rule is refused.
+// The first journal and the changes of its records, where the files stand for something; None where it isn't there.
+// The files are judged in the order of their numbers, and the first that breaks a rule is refused.
 pub(crate) fn read_files<D: Disk>(
     alloc: Global,
     disk: &mut D,

@@ -11,14 +11,14 @@ use std::alloc::Global;
 // The bytes of a frame without changes.
 const LEAST: usize = 17;
 
-/// A frame without changes.
+// A frame without changes.
 pub(crate) fn empty_frame(alloc: Global) -> Result<Vec<u8>, OutOfMemory>
     ensures { IfOk result (λ frame. length frame.items ≡ 17) }
 {
     Ok(Vec::from_slice(alloc, &[0; LEAST])?)
 }
 
-/// Takes every change out of the frame.
+// Takes every change out of the frame.
 pub(crate) fn clear(frame: &mut Vec<u8>)
     requires { 17 ≤ length frame.old.items }
     ensures { length frame.new.items ≡ 17 }
@@ -26,7 +26,7 @@ pub(crate) fn clear(frame: &mut Vec<u8>)
     frame.truncate(LEAST);
 }
 
-/// Makes room for so many bytes more, and leaves the frame as it is.
+// Makes room for so many bytes more, and leaves the frame as it is.
 pub(crate) fn make_room(frame: &mut Vec<u8>, more: usize) -> Result<(), OutOfMemory>
     ensures same { frame.new.items ≡ frame.old.items }
     ensures room { OnOk result (vec_len frame.old + more ≤ vec_capacity frame.new) }
@@ -35,7 +35,7 @@ pub(crate) fn make_room(frame: &mut Vec<u8>, more: usize) -> Result<(), OutOfMem
     Ok(())
 }
 
-/// The bytes of changes, behind the four of their number.
+// The bytes of changes, behind the four of their number.
 pub(crate) fn entries_in(bytes: &[u8]) -> &[u8]
     requires { 4 ≤ length bytes.now }
     ensures { result.now ≡ drop 4 bytes.now }
@@ -44,7 +44,7 @@ pub(crate) fn entries_in(bytes: &[u8]) -> &[u8]
     &bytes[4..end]
 }
 
-/// Puts the bytes of more changes behind those that are there. It takes no memory.
+// Puts the bytes of more changes behind those that are there. It takes no memory.
 pub(crate) fn put_entries(frame: &mut Vec<u8>, entries: &[u8])
     requires least { 17 ≤ length frame.old.items }
     requires room { vec_len frame.old + length entries.now ≤ vec_capacity frame.old }
@@ -67,7 +67,7 @@ fn put(frame: &mut Vec<u8>, bytes: &[u8])
     };
 }
 
-/// Fills in the number of changes.
+// Fills in the number of changes.
 pub(crate) fn write_count(frame: &mut [u8], count: u32)
     requires { 17 ≤ length frame.old }
     ensures { body_of frame.new ≡ be32 count ++ entries_of frame.old }

@@ -15,8 +15,8 @@ use sdb_domain::Accounts;
 use sdb_journal::Journal;
 use std::alloc::Global;
 
-/// The journal and the accounts of the files, after a sync of all four. The first journal is made where there is none.
-/// NotAStore comes exactly where the files stand for nothing, with the first bad file; then nothing was written.
+// The journal and the accounts of the files, after a sync of all four. The first journal is made where there is none.
+// NotAStore comes exactly where the files stand for nothing, with the first bad file; then nothing was written.
 pub(crate) fn open_files<D: Disk>(
     alloc: Global,
     disk: &mut D,

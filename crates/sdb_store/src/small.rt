@@ -13,7 +13,7 @@ use std::alloc::Global;
 // The most pairs of an item.
 const MOST: usize = 256;
 
-/// The accounts that the changes lead to; None where they have an item of more than 256 pairs.
+// The accounts that the changes lead to; None where they have an item of more than 256 pairs.
 pub(crate) fn accounts_of(alloc: Global, changes: &Changes) -> Result<Option<Accounts>, OutOfMemory>
     ensures some { IfOk result (λ found. IfSome found (λ accounts. accounts ≡ state [] changes.now)) }
     ensures small { IfOk result (λ found. IfSome found (λ accounts. HasSmallItems accounts)) }

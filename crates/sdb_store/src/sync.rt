@@ -6,7 +6,7 @@ ghost use Rattle.sdb_store.specs.Synced.{Synced};
 
 use sdb_disk::{Disk, DiskFault};
 
-/// Syncs the four files.
+// Syncs the four files.
 pub(crate) fn sync_all<D: Disk>(disk: &mut D) -> Result<(), DiskFault>
     ensures synced { OnOk result (Synced 4 (D.state disk.old) (D.state disk.new)) }
     ensures images { LeavesOnly (D.state disk.old) (D.state disk.new) (Image (D.state disk.old)) }
