@@ -131,3 +131,10 @@ pub record Patches (file at : ℕ) (bytes : List ℕ) (old new : State) : Type 0
 pub record PatchedIn (file at n : ℕ) (old : State) (c : Files) : Type 0 where
   pub patched : Torn at n (old.seen file) (c file)
   pub others : (k : ℕ) → k ≢ file → old.may_leave k (c k)
+
+-- files that a crash may leave during that, whatever the file was when it began
+pub record TornIn (file at n : ℕ) (old : State) (c : Files) : Type 0 where
+  pub was : List ℕ
+  pub before : old.may_leave file was
+  pub torn : Torn at n was (c file)
+  pub others : (k : ℕ) → k ≢ file → old.may_leave k (c k)

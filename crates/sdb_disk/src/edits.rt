@@ -7,7 +7,7 @@ ghost use Rattle.sdb_disk.specs.Past.{contents, Overwrites, CutsOff};
 use crate::memory::Call;
 use std::alloc::{AllocError, Global};
 
-/// The content of a file.
+// The content of a file.
 pub(crate) fn content(files: &[Vec<u8>; 4], file: u8) -> &[u8]
     requires { file < 4 }
     ensures { result.now ≡ contents files.now file }
@@ -15,7 +15,7 @@ pub(crate) fn content(files: &[Vec<u8>; 4], file: u8) -> &[u8]
     files[file as usize].as_slice()
 }
 
-/// Puts the bytes at their place, and makes the content longer where they pass its end.
+// Puts the bytes at their place, and makes the content longer where they pass its end.
 fn overlay(content: &mut Vec<u8>, at: usize, bytes: &[u8]) -> Result<(), AllocError>
     requires { at ≤ vec_len content.old }
     ensures ok { OnOk result (content.new.items ≡ overlaid content.old.items at bytes.now) }
@@ -27,7 +27,7 @@ fn overlay(content: &mut Vec<u8>, at: usize, bytes: &[u8]) -> Result<(), AllocEr
     Ok(())
 }
 
-/// The bytes of the content that a write of `count` bytes replaces.
+// The bytes of the content that a write of `count` bytes replaces.
 fn replaced(alloc: Global, content: &[u8], at: usize, count: usize) -> Result<Vec<u8>, AllocError>
     requires { at ≤ length content.now }
     ensures { IfOk result (λ was. was.items ≡ take count (drop at content.now)) }
@@ -36,7 +36,7 @@ fn replaced(alloc: Global, content: &[u8], at: usize, count: usize) -> Result<Ve
     content[at..at + inside].to_vec(alloc)
 }
 
-/// Writes the bytes into a file.
+// Writes the bytes into a file.
 pub(crate) fn write_file(
     alloc: Global,
     files: &mut [Vec<u8>; 4],
@@ -69,7 +69,7 @@ pub(crate) fn write_file(
     Ok(())
 }
 
-/// Cuts a file to a length.
+// Cuts a file to a length.
 pub(crate) fn cut_file(
     alloc: Global,
     files: &mut [Vec<u8>; 4],
@@ -93,7 +93,7 @@ pub(crate) fn cut_file(
     Ok(())
 }
 
-/// Notes that a file was synced.
+// Notes that a file was synced.
 pub(crate) fn sync_file(calls: &mut Vec<Call>, file: u8) -> Result<(), AllocError>
     ensures ok { OnOk result (calls.new.items ≡ calls.old.items ++ Call.Sync file ∷ []) }
     ensures err { OnErr result (calls.new.items ≡ calls.old.items) }
@@ -102,7 +102,7 @@ pub(crate) fn sync_file(calls: &mut Vec<Call>, file: u8) -> Result<(), AllocErro
     Ok(())
 }
 
-/// Fills the buffer from the place `at` up to the content's end, and gives the number of bytes.
+// Fills the buffer from the place `at` up to the content's end, and gives the number of bytes.
 pub(crate) fn read_content(content: &[u8], at: u64, buf: &mut [u8]) -> usize
     ensures count { result ≡ min (length buf.old) (length content.now - at) }
     ensures bytes { take result buf.new ≡ take result (drop at content.now) }

@@ -30,7 +30,7 @@ pub enum WorkFault {
     OutOfMemory,
 }
 
-/// One fault more.
+// One fault more.
 pub(crate) fn raise(faults: &mut u64) -> DiskFault
     ensures one_more { faults.new ≡ counted faults.old }
     ensures later { faults.old ≤ faults.new }

@@ -5,17 +5,22 @@
 mod disk;
 mod durable;
 mod edits;
+mod failure;
 mod fault;
 mod lost;
 mod memory;
+mod patient;
+mod raw;
 mod real;
-mod slot;
 
 pub use disk::Disk;
-pub use durable::write_durably;
+pub use durable::{write_durably, write_over};
+pub use failure::{Failure, FailureCause};
 pub use fault::{DiskFault, OpenFault, WorkFault};
 pub use memory::MemoryDisk;
 pub use real::FileDisk;
 
+#[cfg(test)]
+mod fake;
 #[cfg(test)]
 mod tests;

@@ -5,7 +5,7 @@ ghost use Rattle.sdb_disk.specs.Crash.{range_filled, is_sync_of, lost_in, lost, 
 
 use crate::memory::Call;
 
-/// The files after a crash.
+// The files after a crash.
 pub(crate) fn lose_all(files: [Vec<u8>; 4], calls: &[Call], fill: Option<u8>) -> [Vec<u8>; 4]
     ensures { (k : ℕ) → contents result k ≡ crashed fill k (reverse calls.now) (contents files k) }
 {
@@ -18,8 +18,8 @@ pub(crate) fn lose_all(files: [Vec<u8>; 4], calls: &[Call], fill: Option<u8>) ->
     ]
 }
 
-/// The content of a file after a crash. Each range that was written since the file's last sync holds the
-/// byte, where there is one.
+// The content of a file after a crash. Each range that was written since the file's last sync holds the
+// byte, where there is one.
 fn lose(mut content: Vec<u8>, file: u8, calls: &[Call], fill: Option<u8>) -> Vec<u8>
     ensures { result.items ≡ crashed fill file (reverse calls.now) content.items }
 {

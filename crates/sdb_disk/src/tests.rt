@@ -143,6 +143,13 @@ fn real_files_are_made_kept_and_refused(rt: HostRuntime) -> Result<(), Fail> {
     fs::remove_dir(&rt, "sdb.c1")?;
     assert_eq!(rt; disk.len(1), Ok(0));
     let mut again = FileDisk::new(rt.clone()?);
+    assert_eq!(rt; again.sync(0), Err(DiskFault));
+    let held = Failure {
+        file: "sdb.c0",
+        cause: FailureCause::Held,
+    };
+    assert_eq!(rt; again.failure(), Some(held));
+    drop(disk);
     assert_holds(&rt, &mut again, 0, b"checker")?;
     remove_store(&rt);
     Ok(())

@@ -1,5 +1,5 @@
 use Rattle.std.proofs.Common.{◌≤◌, length}
-use Rattle.sdb_disk.proofs.slot.read_to_end.Given as goal
+use Rattle.sdb_disk.proofs.patient.read_whole.Given as goal
 
 abbrev pub invariant-reads : goal.invariant-reads
 invariant-reads g l = l.filled ≤ length l.buf
