@@ -1,2 +1,9 @@
+pub mod BatchLemmas
+pub mod DecisionLemmas
+pub mod ItemLemmas
+pub mod LawfulLemmas
+pub mod LimitLemmas
 pub mod OnceLemmas
+pub mod OnlyLemmas
+pub mod StaysLemmas
 pub mod WriteLemmas

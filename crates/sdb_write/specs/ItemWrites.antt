@@ -52,9 +52,13 @@ left_of (delete_from name parts) old = del old parts
 abbrev pub with_pairs : ItemEntries → List ℕ → List Pair → ItemEntries
 with_pairs items name pairs = placed text_cmp items name (item_with pairs)
 
+-- the items with one of them written, which has what its write leaves of the pairs that it had in the old items
+abbrev pub item_written : ItemEntries → ItemEntries → ItemWrite → ItemEntries
+item_written old items w = with_pairs items (name_of w) (left_of w (pairs_at old (name_of w)))
+
 -- the items after the writes: each named item has what its write leaves of the pairs that it had before them all
 abbrev pub items_written : ItemEntries → List ItemWrite → ItemEntries
-items_written old writes = fold (λ items w. with_pairs items (name_of w) (left_of w (pairs_at old (name_of w)))) old writes
+items_written old writes = fold (item_written old) old writes
 
 -- each of the writes names an item of its own
 abbrev pub NamesApart : List ItemWrite → Type 0

@@ -1,49 +1,41 @@
 // What a conditional write expects, judged over an item.
-ghost use Rattle.std.specs.Prelude.{◌≡◌, ◌+◌, ◌≤◌, map, MatchResult, Some, None};
+ghost use Rattle.std.specs.Prelude.{◌≡◌, ◌+◌, ◌≤◌, [], map, unwrap_or, MatchResult, Some, None};
 ghost use Rattle.std.specs.Option.{option_copied};
 ghost use Rattle.sdb_pairs.specs.Accounts.{pairs_at};
+ghost use Rattle.sdb_write.specs.Checks.{Checks};
 ghost use Rattle.sdb_write.specs.Expectation.{judged, unmet};
-ghost use Rattle.sdb_write.specs.Writes.{item_refusal};
 
 use sdb_action::Expect;
 use sdb_base::{Steps, Text};
 use sdb_domain::Domain;
-use sdb_pairs::Pair;
+use sdb_pairs::{Item, Pair};
 use sdb_tables::Refusal;
 
-/// Whether the item may be written: its domain is there, and it is as expected.
+// Whether an item is as expected. It is looked at only where something is expected.
 pub(crate) fn check<L>(
-    domain: Option<&Domain>,
-    item: &Text,
+    domain: &Domain,
+    name: &Text,
     expect: Option<&Expect>,
-    items: &mut Steps<L>,
+    looks: &mut Steps<L>,
 ) -> Result<(), Refusal>
-    ensures answer { MatchResult result
-        (λ _. item_refusal (option_copied domain.entry) item.now (option_copied expect.entry) ≡ None)
-        (λ refusal. item_refusal (option_copied domain.entry) item.now (option_copied expect.entry) ≡ Some refusal) }
-    ensures later { items.old ≤ items.new }
-    ensures ticks { items.new ≤ items.old + 1 }
+    ensures answer { Checks (unmet (option_copied expect.entry) (pairs_at domain.now name.now)) result }
+    ensures later { looks.old ≤ looks.new }
+    ensures ticks { looks.new ≤ looks.old + 1 }
 {
-    let domain = domain.ok_or(Refusal::NoSuchDomain)?;
     match expect {
-        Some(expect) => check_item(domain, item, expect, items),
+        Some(_) => judge_item(domain.item(name, looks), expect),
         None => Ok(()),
     }
 }
 
-// Whether the item is as expected. An item that isn't there has no values.
-fn check_item<L>(
-    domain: &Domain,
-    item: &Text,
-    expect: &Expect,
-    items: &mut Steps<L>,
-) -> Result<(), Refusal>
-    ensures answer { MatchResult result
-        (λ _. unmet (Some expect.now) (pairs_at domain.now item.now) ≡ None)
-        (λ refusal. unmet (Some expect.now) (pairs_at domain.now item.now) ≡ Some refusal) }
-    ensures ticks { items.new ≡ items.old + 1 }
+// Whether an item is as expected. One that isn't there has no values.
+pub(crate) fn judge_item(item: Option<&Item>, expect: Option<&Expect>) -> Result<(), Refusal>
+    ensures { Checks (unmet (option_copied expect.entry) (unwrap_or (option_copied item.entry) [])) result }
 {
-    match domain.item(item, items) {
+    let Some(expect) = expect else {
+        return Ok(());
+    };
+    match item {
         Some(item) => judge(expect.value.as_ref(), item.values(&expect.name)),
         None => judge(expect.value.as_ref(), &[]),
     }
