@@ -1,4 +1,14 @@
+pub mod BoundLemmas
+pub mod CutLemmas
 pub mod FitLemmas
 pub mod FrontLemmas
+pub mod JoinedLemmas
+pub mod KeptLemmas
 pub mod PageLemmas
+pub mod PlaceOrder
+pub mod PositionLemmas
+pub mod ScanLemmas
+pub mod SeenLemmas
+pub mod SelectLemmas
+pub mod ShownLemmas
 pub mod SpotLemmas

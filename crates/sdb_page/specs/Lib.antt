@@ -1,2 +1,4 @@
 pub mod Pages
+pub mod Seen
+pub mod Selects
 pub mod Spots

@@ -1,5 +1,5 @@
 -- Where the items of a domain stand in the order of a Select.
-use Rattle.std.specs.Prelude.{ℕ, ◌+◌, ◌-◌, Bool, true, false, List, [], length, filter, fold, slice_get, sum_by, Option, Some, None, option_map, bytes_eq}
+use Rattle.std.specs.Prelude.{ℕ, ◌+◌, ◌-◌, Bool, true, false, List, [], length, filter, fold, slice_get, sum_by, Option, Some, None, option_map, bytes_eq, if◌then◌else◌}
 use Rattle.std.specs.declared.cmp.Ordering.{Ordering}
 use Rattle.std.specs.declared.cmp.Ordering.TheVariants.{Less, Greater}
 use Rattle.std.specs.List.{list_any}
@@ -90,6 +90,10 @@ abbrev pub with_row : List Row → Option Spot → Item → List Row
 with_row rows None item = rows
 with_row rows (Some spot) item = insert_entry spot_cmp rows spot item
 
+-- the same, where the item passes
+abbrev pub with_item : (Item → Bool) → Option Sort → List Row → Item → List Row
+with_item passes sort rows item = if passes item then with_row rows (spot_of sort item) item else rows
+
 -- items under their spots, in order
 abbrev pub rows_of : Option Sort → ItemEntries → List Row
 rows_of sort items = fold (λ rows item. with_row rows (spot_of sort item) item) [] items
@@ -111,9 +115,13 @@ shown_pairs (Listed names) pairs = filter (λ pair. list_any (bytes_eq pair.name
 abbrev pub pair_bytes : Pair → ℕ
 pair_bytes pair = length pair.name + length pair.value
 
--- the bytes of a row on a page: those of its name, and of the names and values that are shown
+-- the bytes of an item on a page: those of its name, and of the names and values that are shown
+abbrev pub item_bytes : Output → Item → ℕ
+item_bytes output item = length item.0 + sum_by pair_bytes (shown_pairs output item.1)
+
+-- and those of a row
 abbrev pub row_bytes : Output → Row → ℕ
-row_bytes output row = length row.1.0 + sum_by pair_bytes (shown_pairs output row.1.1)
+row_bytes output row = item_bytes output row.1
 
 -- a page has at most so many bytes
 abbrev pub most_bytes : ℕ

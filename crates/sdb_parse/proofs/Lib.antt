@@ -1,4 +1,5 @@
 mod CompleteLemmas
+pub mod ComputedLemmas
 mod ConditionComplete
 mod ConditionLemmas
 mod ConditionSound

@@ -1,3 +1,4 @@
+pub mod Computed
 pub mod Conditions
 pub mod Fits
 pub mod Grammar

@@ -1,5 +1,7 @@
 // Laws of the grammar, each the contract of a function.
-ghost use Rattle.sdb_parse.specs.Parsed.{OneAnswer, OneTree};
+ghost use Rattle.std.specs.Prelude.{List, ℕ};
+ghost use Rattle.sdb_parse.specs.Computed.{parsed};
+ghost use Rattle.sdb_parse.specs.Parsed.{OneAnswer, OneTree, Parsed};
 ghost use Rattle.sdb_parse.specs.Printed.{PrintedIsRead, PrintedSpells};
 
 /// A text has one answer: one tree, or one refusal.
@@ -21,4 +23,9 @@ pub fn printed_spells()
 /// bytes.
 pub fn printed_is_read()
     ensures { PrintedIsRead }
+{}
+
+/// What is computed of a text is what it is answered: the tree that it spells, or its first refusal.
+pub fn computed_is_answered()
+    ensures { (text : List ℕ) → Parsed text (parsed text) }
 {}

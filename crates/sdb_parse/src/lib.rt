@@ -26,7 +26,7 @@ mod test;
 
 pub use expr::{Expr, Exprs, Operand};
 pub use fitting::fits;
-pub use laws::{one_answer, one_tree, printed_is_read, printed_spells};
+pub use laws::{computed_is_answered, one_answer, one_tree, printed_is_read, printed_spells};
 pub use matching::like;
 pub use pattern::Pattern;
 pub use printing::print;

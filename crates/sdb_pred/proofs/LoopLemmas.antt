@@ -7,8 +7,11 @@ use Rattle.std.proofs.lemmas.List.Folds.{list_all_at}
 use Rattle.std.proofs.lemmas.Slice.Eq.{bytes_eq-Decides}
 use Rattle.sdb_pairs.specs.declared.pair.Pair.{Pair}
 use Rattle.sdb_parse.specs.declared.expr.Expr.{Expr}
-use Rattle.sdb_parse.specs.Meaning.{asks, common, meaning, member_holds, same_attr, sole, together}
-use Rattle.sdb_parse.proofs.MeaningLemmas.{together_members}
+use Rattle.sdb_parse.specs.declared.expr.Operand.TheVariants as operand
+use Rattle.sdb_parse.specs.declared.test.Test.{Test}
+use Rattle.sdb_parse.specs.Fits.{fits}
+use Rattle.sdb_parse.specs.Meaning.{Values, any_item, asks, common, has_value, is_absent, meaning, member_holds, names_items, predicate_needs, same_attr, sole, together}
+use Rattle.sdb_parse.proofs.MeaningLemmas.{some_member, together_members}
 use Rattle.sdb_pairs.specs.Pairs.{part_named}
 use Rattle.sdb_pred.specs.Items.{values_in}
 
@@ -67,3 +70,33 @@ pub common_end : (members : List Expr) (first : Expr) (others : List Expr) (attr
     Some attr ≡ common (map sole members)
 common_end members first others attr i is one over all =
     common_is members first others attr is one (ap (list_all (λ e. same_attr (Some attr) (sole e))) (sym (take_all i others over)) ∙ all)
+
+-- ---- what is needed of an item
+
+-- there is a value
+pub some_value : (values : List (List ℕ)) → list_any (λ value. true) values ≡ not (is_absent values)
+some_value [] = refl
+some_value (value ∷ values) = refl
+
+pub ruleset needs = (of_values, some_value)
+
+either_need : (b own : Bool) (t : Test) (name : List ℕ) (values : Values) → own ≡ fits t name → (not b || own) ≡ (if b then (λ (name : List ℕ) (values : Values). fits t name) else any_item) name values
+either_need true own t name values is = is
+either_need false own t name values is = refl
+
+pub name_need : (t : Test) (own : Bool) (name : List ℕ) (values : Values) → own ≡ fits t name → (not (names_items t) || own) ≡ predicate_needs operand.ItemName t name values
+name_need t own name values is = either_need (names_items t) own t name values is
+
+-- a value that is asked for by all members, or by one of them, by the pairs
+pub all_by_pairs : (es : List Expr) (attr : List ℕ) (pairs all : List Pair) → pairs ≡ part_named attr all →
+    list_any (λ q. list_all (λ e. not (same_attr (Some attr) (sole e)) || asks e q.value) es) pairs ≡ has_value attr (together (map meaning es) attr) [] (values_in all)
+all_by_pairs es attr pairs all part = part_by_pairs es (Some attr) attr [] false pairs all refl part
+
+some_by_pairs : (es : List Expr) (pairs : List Pair) →
+    list_any (λ q. list_any (λ e. asks e q.value) es) pairs ≡ list_any (λ value. list_any (λ m. m.asks value) (map meaning es)) (map (λ q. q.value) pairs)
+some_by_pairs es [] = refl
+some_by_pairs es (q ∷ pairs) = ap₂ (λ a b. a || b) (sym (some_member (λ m. m.asks q.value) es)) (some_by_pairs es pairs)
+
+pub asked_by_pairs : (es : List Expr) (attr : List ℕ) (pairs all : List Pair) → pairs ≡ part_named attr all →
+    list_any (λ q. list_any (λ e. asks e q.value) es) pairs ≡ has_value attr (λ value. list_any (λ m. m.asks value) (map meaning es)) [] (values_in all)
+asked_by_pairs es attr pairs all part = some_by_pairs es pairs ∙ ap (λ l. list_any (λ value. list_any (λ m. m.asks value) (map meaning es)) (map (λ q. q.value) l)) part

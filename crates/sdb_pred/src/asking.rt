@@ -35,7 +35,7 @@ fn all_ask(members: &[Expr], value: &Text) -> bool
 }
 
 #[cycle(asks)]
-fn some_asks(members: &[Expr], value: &Text) -> bool
+pub(crate) fn some_asks(members: &[Expr], value: &Text) -> bool
     ensures { result ≡ list_any (λ e. asks e value.now) members.now }
 {
     for member in members {

@@ -78,7 +78,7 @@ fn all_hold(members: &[Expr], name: &Text, item: &Item) -> bool
 }
 
 // Whether one of the values of an attribute, in these pairs, fits all members that are sole on it.
-fn some_value_fits_all(members: &[Expr], attr: &Text, pairs: &[Pair]) -> bool
+pub(crate) fn some_value_fits_all(members: &[Expr], attr: &Text, pairs: &[Pair]) -> bool
     ensures { result ≡ list_any (λ p. list_all (λ e. not (same_attr (Some attr.now) (sole e)) || asks e p.value) members.now) pairs.now }
 {
     for pair in pairs {
@@ -129,7 +129,7 @@ fn name_holds(test: &Test, name: &Text) -> bool
 }
 
 // Whether a null test asks for absence; other tests ask one value.
-fn absence_of(test: &Test) -> Option<bool>
+pub(crate) fn absence_of(test: &Test) -> Option<bool>
     ensures { result ≡ absence_of test.now }
 {
     match test {
@@ -140,7 +140,7 @@ fn absence_of(test: &Test) -> Option<bool>
 }
 
 // Whether an attribute has no value.
-fn is_absent(pairs: &[Pair]) -> bool
+pub(crate) fn is_absent(pairs: &[Pair]) -> bool
     ensures { result ≡ is_absent (map (λ p. p.value) pairs.now) }
 {
     match pairs.split_first() {
@@ -149,7 +149,7 @@ fn is_absent(pairs: &[Pair]) -> bool
     }
 }
 
-fn some_fits(test: &Test, pairs: &[Pair]) -> bool
+pub(crate) fn some_fits(test: &Test, pairs: &[Pair]) -> bool
     ensures { result ≡ list_any (λ p. fits test.now p.value) pairs.now }
 {
     for pair in pairs {

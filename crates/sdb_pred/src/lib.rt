@@ -4,10 +4,14 @@
 mod asking;
 mod attr;
 mod holding;
+mod needing;
 
 pub use asking::asks;
 pub use attr::sole;
 pub use holding::holds;
+pub use needing::{can_hold, has_value_for_all, has_value_for_some};
 
 #[cfg(test)]
 mod tests;
+#[cfg(test)]
+mod worked;
