@@ -2,3 +2,4 @@ pub mod DescribedLemmas
 pub mod GetLemmas
 pub mod ListingLemmas
 pub mod OutcomeLemmas
+pub mod SelectingLemmas

@@ -1,5 +1,5 @@
 -- The names of domains, one after the other.
-use Rattle.std.proofs.Common.{◌≡◌, ℕ, ◌+◌, ◌<◌, ◌≤◌, ◌==◌, Bool, true, false, cond, List, [], ◌∷◌, ◌++◌, length, map, filter, take, slice_get, nat_lt, option_map, Option, Some, None, Less, is_lt, is_some, refl, sym, ◌∙◌, ap, subst, arith, append-nil, append_assoc, length-append, take_all}
+use Rattle.std.proofs.Common.{◌≡◌, ℕ, ◌+◌, ◌≤◌, ◌==◌, true, false, cond, List, [], ◌∷◌, ◌++◌, length, map, filter, take, slice_get, nat_lt, option_map, Option, Some, None, Less, is_lt, is_some, refl, sym, ◌∙◌, ap, subst, arith, append-nil, append_assoc, length-append, take_all}
 use Rattle.std.specs.List.{AllByRecursion}
 use Rattle.std.specs.List.Sorted.{IsStrictlySortedBy}
 use Rattle.std.specs.Map.{keys_of}
@@ -17,7 +17,7 @@ use Rattle.sdb_domain.proofs.WalkLemmas.{entries_behind}
 use Rattle.sdb_answer.specs.Listing.{names_after}
 
 -- domains of one account under their names alone
-abbrev named : DomainEntries → List (List ℕ × ItemEntries)
+abbrev pub named : DomainEntries → List (List ℕ × ItemEntries)
 named domains = map (λ domain. (domain.0.1, domain.1)) domains
 
 abbrev names : DomainEntries → List (List ℕ)
@@ -35,7 +35,7 @@ named-above name (d ∷ domains) =
     ≡ cond b ((d.0.1, d.1) ∷ filter (λ e. is_lt (text_cmp name e.0)) (named domains)) (filter (λ e. is_lt (text_cmp name e.0)) (named domains)))
     [ true ↦ ap (λ l. (d.0.1, d.1) ∷ l) ih | false ↦ ih ]
 
-named-after : (accounts : DomainEntries) (account : ℕ) (after : Option (List ℕ)) → named (domains_after accounts account after) ≡ entries_after (named (domains_of accounts account)) after
+pub named-after : (accounts : DomainEntries) (account : ℕ) (after : Option (List ℕ)) → named (domains_after accounts account after) ≡ entries_after (named (domains_of accounts account)) after
 named-after accounts account None = refl
 named-after accounts account (Some name) = named-above name (domains_of accounts account)
 
@@ -57,7 +57,7 @@ above_named d (x ∷ domains) account here above =
     (λ other. subst P (sym (ap (λ b. cond b (x ∷ domains_of domains account) (domains_of domains account)) other)) rest)
 
 -- the names of an account's domains rise
-rising-named : (accounts : DomainEntries) (account : ℕ) → IsRising domain_cmp accounts → IsRising text_cmp (named (domains_of accounts account))
+pub rising-named : (accounts : DomainEntries) (account : ℕ) → IsRising domain_cmp accounts → IsRising text_cmp (named (domains_of accounts account))
 unfolding IsStrictlySortedBy
 rising-named [] account rises = tt
 rising-named (d ∷ accounts) account rises =

@@ -2,3 +2,4 @@ pub mod Described
 pub mod Gets
 pub mod Listing
 pub mod Outcome
+pub mod Selecting

@@ -1,5 +1,5 @@
 -- What one request comes to over the accounts: its outcome, its changes, and the accounts after it.
-use Rattle.std.specs.Prelude.{◌≡◌, ℕ, List, [], map, Result, Ok, Err}
+use Rattle.std.specs.Prelude.{◌≡◌, ℕ, List, [], Result, Ok, Err}
 use Rattle.sdb_action.specs.declared.action.Action.{Action}
 use Rattle.sdb_action.specs.declared.action.Action.TheVariants as action
 use Rattle.sdb_action.specs.declared.request.Request.{Request}
@@ -8,15 +8,14 @@ use Rattle.sdb_pairs.specs.Accounts.{DomainEntries, items_of, AreAccounts}
 use Rattle.sdb_pairs.specs.Changes.{state}
 use Rattle.sdb_pairs.specs.declared.change.Change.{Change}
 use Rattle.sdb_tables.specs.declared.refusal.Refusal.{Refusal}
-use Rattle.sdb_tables.specs.declared.refusal.Refusal.TheVariants.{InvalidAction}
 use Rattle.sdb_write.specs.Changes.{decision}
-use Rattle.sdb_write.specs.ItemWrites.{put_write, drop_write, NamesApart}
-use Rattle.sdb_write.specs.Writes.{write}
+use Rattle.sdb_write.specs.Writes.{write, NamesOnce}
 use Rattle.sdb_reply.specs.declared.outcome.Outcome.{Outcome}
 use Rattle.sdb_reply.specs.declared.outcome.Outcome.TheVariants.{Done, Refused}
 use Rattle.sdb_answer.specs.Described.{described}
 use Rattle.sdb_answer.specs.Gets.{got}
 use Rattle.sdb_answer.specs.Listing.{listed, listed_after}
+use Rattle.sdb_answer.specs.Selecting.{bound_in, looks_in, number_of, selected}
 
 -- the outcome of a write, by what it makes of the accounts
 abbrev pub written : Action → Result DomainEntries Refusal → Outcome
@@ -34,7 +33,7 @@ outcome accounts account moment (BatchPut domain items) = written action.BatchPu
 outcome accounts account moment (Get domain item names) = got (items_of accounts account domain) item names
 outcome accounts account moment (Delete domain item expect) = written action.DeleteAttributes (write accounts account (Delete domain item expect))
 outcome accounts account moment (BatchDelete domain items) = written action.BatchDeleteAttributes (write accounts account (BatchDelete domain items))
-outcome accounts account moment (Select expression token) = Refused InvalidAction
+outcome accounts account moment (Select expression token) = selected accounts account expression token
 
 -- the changes that were decided, none where the request is refused
 abbrev pub unless_refused : Result (List Change) Refusal → List Change
@@ -54,22 +53,16 @@ left_by (Err refusal) accounts = accounts
 abbrev pub after : DomainEntries → ℕ → Request → DomainEntries
 after accounts account request = left_by (write accounts account request) accounts
 
--- how many items are looked at, at most
-abbrev pub looks_of : Request → ℕ
-looks_of (Get domain item names) = 1
-looks_of _ = 0
+-- how many items a Select is thought to look at; 0 for every other request
+abbrev pub bound_of : DomainEntries → (account : ℕ) → Request → ℕ
+bound_of accounts account (Select expression token) = number_of bound_in accounts account expression token
+bound_of accounts account _ = 0
 
--- a batch names each item once
-abbrev pub NamesOnce : Request → Type 0
-NamesOnce (BatchPut domain items) = NamesApart (map put_write items)
-NamesOnce (BatchDelete domain items) = NamesApart (map drop_write items)
-NamesOnce _ = Unit {0}
-
--- no batch: batches aren't decided yet
-abbrev pub IsNoBatch : Request → Type 0
-IsNoBatch (BatchPut domain items) = ⊥
-IsNoBatch (BatchDelete domain items) = ⊥
-IsNoBatch _ = Unit {0}
+-- how many items are looked at, at most: those of its domain for a Select, and one for a get
+abbrev pub looks_of : DomainEntries → (account : ℕ) → Request → ℕ
+looks_of accounts account (Get domain item names) = 1
+looks_of accounts account (Select expression token) = number_of looks_in accounts account expression token
+looks_of accounts account _ = 0
 
 -- the changes of a request lead from accounts in order to the accounts after it
 abbrev pub ChangesLeadAfter : Type 0

@@ -7,10 +7,11 @@ mod describing;
 mod gets;
 mod laws;
 mod listing;
+mod selecting;
 
 pub use answered::Answer;
 pub use answers::answer;
-pub use laws::changes_lead_after;
+pub use laws::{changes_lead_after, tokens_stand_where_more_is_left};
 
 #[cfg(test)]
 mod tests;

@@ -1,16 +1,15 @@
 -- How long the responses to refusals are.
-use Rattle.std.proofs.Common.{◌≡◌, ℕ, zero, suc, ◌+◌, ◌/◌, ◌%◌, ◌≤◌, ◌<◌, ◌^◌, List, [], ◌∷◌, ◌++◌, ◌&&◌, Bool, true, false, Option, Result, Ok, Err, length, nat_le, decimal, slice_index_or, lit<, lit≤, refl, sym, ◌∙◌, ap, subst, arith, length-append}
+use Rattle.std.proofs.Common.{◌≡◌, ℕ, zero, suc, ◌+◌, ◌/◌, ◌%◌, ◌≤◌, ◌<◌, ◌^◌, List, [], ◌∷◌, ◌&&◌, Bool, true, false, Result, Ok, length, nat_le, decimal, slice_index_or, lit<, lit≤, refl, ap, subst, arith, length-append}
 use Rattle.std.specs.List.{list_all}
 use Rattle.std.specs.Result.{OnOk}
 use Rattle.std.proofs.lemmas.Bool.{leb-true}
 use Rattle.std.proofs.lemmas.Fmt.{decimal_digit, length-decimal-le}
-use Rattle.http.specs.StatusCode.{code_digits}
 use Rattle.sdb_http.specs.Responses.{close_line, close_lines, head_end, phrase_of, space_word, type_lines, version_word}
 use Rattle.sdb_tables.specs.declared.refusal.Refusal.{Refusal}
 use Rattle.sdb_tables.specs.Faults.{Fault, fault_of, faults, no_fault, place_of}
 use Rattle.sdb_reply.specs.declared.outcome.RequestId.{RequestId}
 use Rattle.sdb_reply.specs.Digits.{digit, padded}
-use Rattle.sdb_reply.specs.Bodies.{after_message, after_refused_id, before_code, before_message, before_refused_id, between, body_text, hours_text, id_text, refusal_units, refused}
+use Rattle.sdb_reply.specs.Bodies.{after_message, after_refused_id, before_code, before_message, before_refused_id, between, body_text, id_text, refusal_units, refused}
 use Rattle.sdb_reply.specs.Faults.{fault_text, head_text, refusal_text}
 
 -- what holds where there is a value

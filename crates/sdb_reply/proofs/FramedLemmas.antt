@@ -1,5 +1,5 @@
 -- Texts that are appended between words.
-use Rattle.std.proofs.Common.{◌≡◌, ℕ, ◌/◌, ◌^◌, List, [], ◌∷◌, ◌++◌, codes, decimal, refl, sym, ◌∙◌, ap, append_assoc, append-nil}
+use Rattle.std.proofs.Common.{◌≡◌, ℕ, ◌/◌, ◌^◌, List, [], ◌∷◌, ◌++◌, codes, decimal, ◌∙◌, ap, append_assoc, append-nil}
 use Rattle.sdb_tables.specs.declared.refusal.Refusal.{Refusal}
 use Rattle.sdb_tables.specs.Faults.{fault_of}
 use Rattle.sdb_reply.specs.declared.outcome.RequestId.{RequestId}

@@ -34,6 +34,7 @@ abbrev pub escape_of : ℕ → List ℕ
 escape_of b =
     if b == 38 then ampersand else (if b == 60 then less else (if b == 62 then greater else (if b == 13 then carriage_return else b ∷ [])))
 
+-- a text with its escapes
 abbrev pub escaped : List ℕ → List ℕ
 escaped text = flat_map escape_of text
 

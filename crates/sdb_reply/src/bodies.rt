@@ -4,7 +4,7 @@ ghost use Rattle.sdb_reply.specs.Bodies.{body_text};
 
 use crate::outcome::{Outcome, RequestId};
 use crate::parts::{append_end, append_ending, append_opening, append_refused, append_start};
-use crate::reckoning::reckoned;
+use crate::reckoning::foreseen;
 use crate::results::{
     append_attributes, append_count, append_domains, append_items, append_metadata,
 };
@@ -21,13 +21,14 @@ pub fn body<'a>(
 ) -> Result<Bytes, OutOfMemory>
     ensures { IfOk result (λ made. made.bytes ≡ body_text outcome.now id.now units) }
 {
-    let mut out = Bytes::with_room(alloc, reckoned(outcome))?;
+    let mut out = Bytes::with_room(alloc, foreseen(outcome))?;
     append_body(alloc, &mut out, outcome, id, units)?;
     Ok(out)
 }
 
+// Appends the body.
 #[tactic(auto, using(std::proofs::Common::append_assoc), unfolding(crate::specs::Bodies::body_text))]
-fn append_body<'a>(
+pub(crate) fn append_body<'a>(
     alloc: Global,
     out: &mut Bytes,
     outcome: &Outcome<'a>,

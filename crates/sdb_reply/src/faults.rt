@@ -61,7 +61,12 @@ fn refusal_length(row: &FaultRow) -> usize
 }
 
 // Appends what stands before the body of a response, a body of `size` bytes. Where there is room for it this takes no memory.
-fn append_head(out: &mut Bytes, status: u16, size: usize, close: bool) -> Result<(), OutOfMemory>
+pub(crate) fn append_head(
+    out: &mut Bytes,
+    status: u16,
+    size: usize,
+    close: bool,
+) -> Result<(), OutOfMemory>
     requires { IsAnswerStatus status }
     ensures ok { OnOk result (out.new.bytes ≡ out.old.bytes ++ head_text status size close) }
     ensures room { length (head_text status size close) ≤ out.old.spare → IsOk result }

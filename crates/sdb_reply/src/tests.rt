@@ -29,6 +29,9 @@ const NO_PAIRS: &str =
 const ITEMS: &str =
     "<?xml version=\"1.0\"?>\n<SelectResponse xmlns=\"http://sdb.amazonaws.com/doc/2009-04-15/\"><SelectResult><Item><Name>i</Name><Attribute><Name>k</Name><Value>a\tb</Value></Attribute><Attribute><Name>&lt;</Name><Value>&gt;</Value></Attribute></Item><Item><Name>j</Name></Item><NextToken>AQ==</NextToken></SelectResult><ResponseMetadata><RequestId>00000001-0000-0000-0000-000000000005</RequestId><BoxUsage>1.2345678901</BoxUsage></ResponseMetadata></SelectResponse>";
 
+const ONE_ITEM: &str =
+    "<?xml version=\"1.0\"?>\n<SelectResponse xmlns=\"http://sdb.amazonaws.com/doc/2009-04-15/\"><SelectResult><Item><Name>i</Name><Attribute><Name>k</Name><Value>v</Value></Attribute></Item></SelectResult><ResponseMetadata><RequestId>00000001-0000-0000-0000-000000000001</RequestId><BoxUsage>0.0000001000</BoxUsage></ResponseMetadata></SelectResponse>";
+
 const COUNT: &str =
     "<?xml version=\"1.0\"?>\n<SelectResponse xmlns=\"http://sdb.amazonaws.com/doc/2009-04-15/\"><SelectResult><Item><Name>Domain</Name><Attribute><Name>Count</Name><Value>4</Value></Attribute></Item></SelectResult><ResponseMetadata><RequestId>00000001-0000-0000-0000-000000000006</RequestId><BoxUsage>1844674407.3709551615</BoxUsage></ResponseMetadata></SelectResponse>";
 
@@ -77,6 +80,8 @@ fn a_write_that_is_done_has_no_result(rt: HostRuntime) -> Result<(), Fail> {
     assert_eq!(rt; told.as_slice(), DONE.as_bytes());
     let sent = response(rt.alloc(), outcome.status(), told.as_slice(), false)?;
     assert_eq!(rt; sent.as_slice(), DONE_SENT.as_bytes());
+    let whole = telling::told(rt.alloc(), &outcome, &id, 50_000, false)?;
+    assert_eq!(rt; whole.as_slice(), DONE_SENT.as_bytes());
     Ok(())
 }
 
@@ -173,4 +178,39 @@ fn a_fault_closes_the_connection(rt: HostRuntime) -> Result<(), Fail> {
     refusal_into(&mut out, &Refusal::NoSuchDomain, &id);
     assert_eq!(rt; out.as_slice(), REFUSED.as_bytes());
     Ok(())
+}
+
+// Asserts that the length of a body was foreseen, and that the response that is written at once has it.
+fn expect_foreseen<'a>(
+    rt: &impl Abort,
+    alloc: Global,
+    outcome: &Outcome<'a>,
+    text: &str,
+) -> Result<(), Fail> {
+    assert_eq!(rt; reckoning::foreseen(outcome), text.len());
+    let id = RequestId { conn: 1, number: 1 };
+    let whole = telling::told(alloc, outcome, &id, 1_000, true)?;
+    let made = body(alloc, outcome, &id, 1_000)?;
+    let sent = response(alloc, outcome.status(), made.as_slice(), true)?;
+    assert_eq!(rt; whole.as_slice(), sent.as_slice());
+    Ok(())
+}
+
+#[test]
+fn lengths_are_foreseen(rt: HostRuntime) -> Result<(), Fail> {
+    let alloc = rt.alloc();
+    expect_foreseen(&rt, alloc, &Outcome::Done(Action::CreateDomain), DONE)?;
+    let mut names = Texts::new(alloc);
+    names.push(Text::from_str(alloc, "books")?)?;
+    names.push(Text::from_str(alloc, "films")?)?;
+    expect_foreseen(&rt, alloc, &Outcome::Domains(names, token(alloc)?), DOMAINS)?;
+    let none = Outcome::Pairs(Pairs::new(alloc));
+    expect_foreseen(&rt, alloc, &none, NO_PAIRS)?;
+    let one = pair(alloc, "k", "v")?;
+    let name = Text::from_str(alloc, "i")?;
+    let mut pairs = Pairs::new(alloc);
+    pairs.push(&one)?;
+    let mut items = ItemsOut::new(alloc);
+    items.push(ItemOut::new(&name, pairs))?;
+    expect_foreseen(&rt, alloc, &Outcome::Items(items, None), ONE_ITEM)
 }

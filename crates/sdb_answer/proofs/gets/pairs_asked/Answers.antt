@@ -1,4 +1,4 @@
-use Rattle.std.proofs.Common.{refl, sym, ◌∙◌, ap, arith, take_all}
+use Rattle.std.proofs.Common.{sym, ◌∙◌, ap, arith, take_all}
 use Rattle.sdb_answer.specs.Gets.{asked_pairs}
 use Rattle.sdb_answer.proofs.GetLemmas.{asked-take, asked-skip}
 use Rattle.sdb_answer.proofs.gets.pairs_asked.Goals as goal

@@ -1,4 +1,4 @@
-use Rattle.std.proofs.Common.{◌≡◌, ◌+◌, ◌∷◌, ◌++◌, [], List, ℕ, length, take, is_some, refl, sym, ◌∙◌, ap, arith, length-append}
+use Rattle.std.proofs.Common.{◌∷◌, ◌++◌, [], length, is_some, sym, ◌∙◌, ap, arith, length-append}
 use Rattle.std.specs.Option.{option_copied}
 use Rattle.sdb_answer.specs.Listing.{names_after}
 use Rattle.sdb_answer.proofs.ListingLemmas.{is_some-map, walk-end, walk-step, walked-all, walked-left, walked-more, walked-most}

@@ -1,4 +1,4 @@
-use Rattle.std.proofs.Common.{◌≡◌, ◌+◌, ◌++◌, List, ℕ, length, ap, arith, ◌∙◌, sym}
+use Rattle.std.proofs.Common.{◌≡◌, ◌++◌, length, ap, arith, ◌∙◌}
 use Rattle.sdb_http.specs.Responses.{phrase_of}
 use Rattle.sdb_tables.specs.Faults.{fault_of}
 use Rattle.sdb_reply.specs.Bodies.{body_text}

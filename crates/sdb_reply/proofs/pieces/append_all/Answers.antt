@@ -1,5 +1,5 @@
 use Rattle.std.proofs.Common.{sym, append-nil, arith}
-use Rattle.sdb_reply.proofs.LoopLemmas.{appended-at, appended-all, room-at, room-left}
+use Rattle.sdb_reply.proofs.LoopLemmas.{appended-at, room-at, room-left}
 use Rattle.sdb_reply.proofs.pieces.append_all.Goals as goal
 
 pub loop-piece-init : goal.loop-piece-init
