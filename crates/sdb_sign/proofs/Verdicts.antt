@@ -20,7 +20,8 @@ one_moment text a b x y =
     let seconds = moved.seconds_are ∙ sym y.moment.seconds_are in
     cc
 
-one_read : (text : List ℕ) (a b : Option ℕ) → ReadsAs text a → ReadsAs text b → a ≡ b
+-- a moment reads as one thing
+pub one_read : (text : List ℕ) (a b : Option ℕ) → ReadsAs text a → ReadsAs text b → a ≡ b
 one_read text None None x y = refl
 one_read text None (Some b) x y = absurd (x b y)
 one_read text (Some a) None x y = absurd (y a x)
