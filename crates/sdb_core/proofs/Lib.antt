@@ -1,8 +1,7 @@
-mod ArrivingLemmas
-mod CountingLemmas
-mod EntryLemmas
-mod FollowingLemmas
-mod StandingLemmas
-mod ReadLemmas
-mod TableLemmas
-mod TakingLemmas
+mod CommitLemmas
+mod EventLemmas
+mod FillLemmas
+mod LawLemmas
+pub mod PrefixLemmas
+mod StepLemmas
+pub mod StoryLemmas

@@ -1,100 +1,113 @@
--- What a line and a table know of their memory and their numbers.
-use Rattle.std.specs.Prelude.{◌≡◌, ℕ, ◌+◌, ◌<◌, ◌≤◌, ◌^◌, true, false, List, [], ◌∷◌, ◌++◌, length, map, slice_index_or, slice_set}
-use Rattle.std.specs.List.{AllByRecursion}
-use Rattle.sdb_http.specs.Feeds.{HasNone, Reads, State}
-use Rattle.sdb_http.specs.Messages.{Reply, is_last}
+-- What the parts of a core do: executing, opening again, commits.
+use Rattle.std.specs.Prelude.{◌≡◌, ℕ, ◌+◌, ◌*◌, ◌≤◌, Bool, true, false, IsTrue, List, [], ◌++◌, length, map, Option, None, Some}
+use Rattle.sdb_arrivals.specs.declared.line.Queued.{Queued}
+use Rattle.sdb_arrivals.specs.Queues.{Queues}
+use Rattle.sdb_arrivals.specs.Reading.{AreRead}
+use Rattle.sdb_arrivals.specs.Story.{Answer, Done, NotAStore, Event, Piece, Arrival}
+use Rattle.sdb_arrivals.specs.Tables.{Connections, Turns}
+use Rattle.sdb_disk.specs.Disk.{State}
 use Rattle.sdb_keys.specs.declared.keys.Key.{Key}
-use Rattle.sdb_core.specs.declared.entry.Counts.{Counts}
-use Rattle.sdb_core.specs.Framing.{arrivals}
-use Rattle.sdb_core.specs.Queues.{Queues, in_line, with_waiting}
-use Rattle.sdb_core.specs.Reading.{AreRead, IsReadOf}
-use Rattle.sdb_core.specs.declared.read.Read.{Read}
-use Rattle.sdb_core.specs.Story.{Arrival, Done, Piece}
-use Rattle.sdb_core.specs.Tables.{Accepts, Alters, Connection, Connections, InOrder, Turns, closed}
+use Rattle.sdb_pairs.specs.Changes.{state}
+use Rattle.sdb_record.specs.Spelling.{spelling}
+use Rattle.sdb_respond.specs.Staged.{most_spelled}
+use Rattle.sdb_store.specs.Kept.{Contents}
+use Rattle.sdb_core.specs.Kept.{Agrees, Holds, View}
+use Rattle.sdb_core.specs.Ledgers.{Ledger, Opening, allowed_in, allowed_of, allows, arrived, filled, if_sound, reopened, where_sound}
+use Rattle.sdb_respond.specs.Reply.{reply_in_line}
+use Rattle.sdb_core.specs.Told.{Makes, step_of}
 
--- the places of a line, by the lengths of its three queues and two capacities: 64 answers can be held, at most so
--- many are, and each arrival has its place among the released answers
-pub record HasPlaces (held held_places waiting out out_places : ℕ) : Type 0 where
-  pub most : 64 ≤ held_places
-  pub few : held ≤ 64
-  pub places : out + held + waiting ≤ out_places
+-- ---- sizes
 
--- the line with more arrivals behind those that wait
-pub record GrowsBy (keys : List Key) (old new : Queues) (came : List Arrival) : Type 0 where
+-- each answer that is held has at most so many bytes of changes; nothing is pending in a store that isn't sound
+pub record HasRoom (line : Queues) (store : Contents) : Type 0 where
+  pub size : length (spelling store.pending) ≤ 4 + length line.held * most_spelled
+  pub none : store.sound ≡ false → store.pending ≡ []
+
+-- how many arrivals a line has in hand
+abbrev pub hand_of : Queues → ℕ
+hand_of line = length line.held + length line.waiting
+
+-- what is true of every core: the changes that are held fit into one group, and what is in hand has arrived
+pub record IsCore (k : View) : Type 0 where
+  pub room : HasRoom k.line k.store
+  pub hand : hand_of k.line ≤ k.table.arrived
+
+-- ---- executing
+
+-- what was staged: the changes of the reply, over the accounts as they were
+pub record Stages (bytes : List ℕ) (w : Queued) (old new : Contents) : Type 0 where
+  pub bytes_are : bytes ≡ (reply_in_line old.accounts w).0
+  pub accounts : new.accounts ≡ state old.accounts (reply_in_line old.accounts w).1
+  pub pending : new.pending ≡ old.pending ++ (reply_in_line old.accounts w).1
+  pub journal : new.journal ≡ old.journal
+  pub sound : new.sound ≡ old.sound
+
+-- a request that was executed: its reply is the answer and is staged, or there was no memory for it
+abbrev pub ExecutesTo : Option (List ℕ) → Queued → Contents → Contents → Type 0
+ExecutesTo None w old new = new ≡ old
+ExecutesTo (Some bytes) w old new = Stages bytes w old new
+
+-- requests were executed, until 64 answers are held or none waits
+pub record Fills (line : Queues) (store : Contents) (next : Queues) (after : Contents) (first last : ℕ) : Type 0 where
+  pub refused : List Bool
+  pub out : next.out ≡ line.out
+  pub journal : after.journal ≡ store.journal
+  pub sound : after.sound ≡ true
+  pub hand : hand_of next ≡ hand_of line
+  pub all : (o : Opening) (l : Ledger) → Agrees line store o l → Agrees next after o (filled o refused l)
+  pub looks : (o : Opening) (l : Ledger) → Agrees line store o l → last ≤ first + allowed_in o refused l
+
+-- the same, where the store is sound
+pub record FillsIf (line : Queues) (store : Contents) (next : Queues) (after : Contents) (first last : ℕ) : Type 0 where
+  pub refused : List Bool
+  pub out : next.out ≡ line.out
+  pub journal : after.journal ≡ store.journal
+  pub sound : after.sound ≡ store.sound
+  pub hand : hand_of next ≡ hand_of line
+  pub all : (o : Opening) (l : Ledger) → Agrees line store o l → Agrees next after o (if_sound l.sound (filled o refused l) l)
+  pub looks : (o : Opening) (l : Ledger) → Agrees line store o l → last ≤ first + allowed_of o refused (where_sound l.sound l)
+
+-- ---- opening again
+
+-- the store was opened again, and requests were executed
+pub record Reopens (told : Bool) (line : Queues) (store : Contents) (before : State) (next : Queues) (after : Contents) (now : State) (first last : ℕ) : Type 0 where
+  pub refused : List Bool
+  pub out : next.out ≡ line.out
+  pub sound : after.sound ≡ true
+  pub all : IsTrue told → (o : Opening) (l : Ledger) → Holds line store before o l
+      → Holds next after now o (filled o refused (reopened o after.journal.sequence l))
+  pub looks : IsTrue told → (o : Opening) (l : Ledger) → Holds line store before o l
+      → last ≤ first + allowed_in o refused (reopened o after.journal.sequence l)
+
+-- the store wasn't
+pub record StaysLost (told : Bool) (line : Queues) (store : Contents) (before : State) (next : Queues) (after : Contents) (now : State) (first last : ℕ) : Type 0 where
+  pub none : last ≡ first
+  pub line_is : next ≡ line
+  pub sound : after.sound ≡ false
+  pub all : IsTrue told → (o : Opening) (l : Ledger) → Holds line store before o l → Holds next after now o l
+
+-- ---- parts of a step
+
+-- an event's effect on queues and store, of every ledger
+pub record MakesAll (e : Event) (a : Answer) (came : List Arrival) (told : Bool) (line : Queues) (store : Contents) (before : State) (next : Queues) (after : Contents) (now : State) (first last : ℕ) : Type 0 where
+  pub refused : List Bool
+  pub all : IsTrue told → (o : Opening) (l : Ledger) → Holds line store before o l
+      → Makes (step_of e a after now came refused) line next after before now o l
+  pub looks : IsTrue told → (o : Opening) (l : Ledger) → Holds line store before o l → last ≤ first + allows o (step_of e a after now came refused) l
+
+-- a piece that came: what it made whole was read, and went to the end of the line; then requests were executed
+pub record Comes (keys : List Key) (conn moment : ℕ) (bytes : List ℕ) (table : Connections) (line : Queues) (store : Contents) (t : Connections) (next : Queues) (after : Contents) (first last : ℕ) : Type 0 where
+  pub came : List Arrival
+  pub refused : List Bool
   pub are_read : AreRead keys came
-  pub is : new ≡ with_waiting old (map in_line came)
+  pub turns : Turns (Piece conn moment bytes) Done 0 (map (λ (w : Arrival). w.framed) came) table t
+  pub out : next.out ≡ line.out
+  pub journal : after.journal ≡ store.journal
+  pub sound : after.sound ≡ store.sound
+  pub all : (o : Opening) (l : Ledger) → Agrees line store o l
+      → Agrees next after o (if_sound l.sound (filled o refused (arrived came l)) (arrived came l))
+  pub looks : (o : Opening) (l : Ledger) → Agrees line store o l → last ≤ first + allowed_of o refused (where_sound l.sound (arrived came l))
 
--- what takes have made of a feed, of the counts of arrivals and of the line
-pub record TakesOff (keys : List Key) (conn moment : ℕ) (start now : State) (before after : Counts) (old new : Queues) : Type 0 where
-  pub replies : List Reply
-  pub came : List Arrival
-  pub framed : map (λ (w : Arrival). w.framed) came ≡ arrivals conn moment before.number replies
-  pub grows : GrowsBy keys old new came
-  pub reads : (earlier : List ℕ) (given : List Reply) → Reads earlier given start.held false → Reads earlier (given ++ replies) now.held now.ended
-  pub size : length replies + length now.held ≤ length start.held
-  pub number : after.number ≡ before.number + length replies
-  pub arrived : after.arrived ≡ before.arrived + length replies
-
--- the same, where nothing more is taken
-pub record TakesAll (keys : List Key) (conn moment : ℕ) (start now : State) (before after : Counts) (old new : Queues) : Type 0 where
-  pub off : TakesOff keys conn moment start now before after old new
-  pub none : now.ended ≡ false → HasNone now.held
-
--- an arrival that the line got
-pub record HasArrived (keys : List Key) (conn number moment : ℕ) (reply : Reply) (old new : Queues) : Type 0 where
-  pub read : Read
-  pub is_read : IsReadOf keys moment reply read
-  pub is : new ≡ with_waiting old (record { conn = conn; number = number; moment = moment; close = is_last reply; read = read } ∷ [])
-
--- a connection that took a piece in, and the line that got what it made whole
-pub record HasAccepted (keys : List Key) (moment : ℕ) (bytes : List ℕ) (first now : ℕ) (before after : Connection) (old new : Queues) : Type 0 where
-  pub came : List Arrival
-  pub grows : GrowsBy keys old new came
-  pub accepts : Accepts moment bytes (map (λ (w : Arrival). w.framed) came) before after first now
-
--- how many bytes the connections hold
-abbrev pub held_sum : List Connection → ℕ
-held_sum [] = 0
-held_sum (e ∷ entries) = length e.held + held_sum entries
-
--- a table of these parts
-abbrev pub table_of : List Connection → ℕ → ℕ → ℕ → Connections
-table_of entries last_opened bytes_taken arrived =
-    record { entries = entries; last_opened = last_opened; bytes_taken = bytes_taken; arrived = arrived }
-
--- what is true of every table: its connections stand in order; its arrivals and the bytes that it holds are at
--- most as many as the bytes that came, which are below 2^48; no connection has more arrivals than there were; and
--- it has the places of 64 connections
-pub record IsTable (t : Connections) (places : ℕ) : Type 0 where
-  pub order : InOrder t
-  pub sized : t.arrived + held_sum t.entries ≤ t.bytes_taken
-  pub bounded : t.bytes_taken < 2 ^ 48
-  pub numbers : AllByRecursion (λ (e : Connection). e.number ≤ t.arrived) t.entries
-  pub room : 64 ≤ places
-
--- the connection is open and stands at this place
-pub record IsUpAt (conn : ℕ) (entries : List Connection) (at : ℕ) : Type 0 where
-  pub entry : Connection
-  pub within : at < length entries
-  pub is : slice_index_or entries at entry ≡ entry
-  pub same : entry.conn ≡ conn
-  pub up : entry.up ≡ true
-
--- a connection that took a piece in stands in its place
-pub record SetsAccepted (keys : List Key) (conn moment : ℕ) (bytes : List ℕ) (first now : ℕ) (entries next : List Connection) (old new : Queues) : Type 0 where
-  pub entry : Connection
-  pub after : Connection
-  pub alters : Alters conn entry after entries next
-  pub accepts : HasAccepted keys moment bytes first now entry after old new
-
--- the connection at a place is closed
-pub record ClosesAt (at : ℕ) (entries next : List Connection) : Type 0 where
-  pub entry : Connection
-  pub is : slice_index_or entries at entry ≡ entry
-  pub set : next ≡ slice_set entries at (closed entry)
-
--- a piece was taken in: what came was read, stands at the end of the line, and changed the table
-pub record Pieced (keys : List Key) (conn moment : ℕ) (bytes : List ℕ) (before after : Queues) (old new : Connections) : Type 0 where
-  pub came : List Arrival
-  pub grows : GrowsBy keys before after came
-  pub turns : Turns (Piece conn moment bytes) Done 0 (map (λ (w : Arrival). w.framed) came) old new
+-- such files stood for accounts, so no file is told to be bad
+abbrev pub IsSure : (told : Bool) → Answer → Queues → Contents → State → Type 0
+IsSure told a line store before = IsTrue told → (o : Opening) (l : Ledger) → Holds line store before o l → (k : ℕ) → a ≡ NotAStore k → ⊥

@@ -1,7 +1,7 @@
-pub mod Connects
-pub mod Framing
+pub mod Causes
 pub mod Inside
-pub mod Queues
-pub mod Reading
-pub mod Story
-pub mod Tables
+pub mod Kept
+pub mod Laws
+pub mod Ledgers
+pub mod Prefix
+pub mod Told

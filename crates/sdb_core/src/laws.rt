@@ -1,42 +1,26 @@
-//! The laws of connections and framing.
+//! The laws of ledgers and stories.
 
-ghost use Rattle.std.specs.Prelude.{◌≡◌, ◌↔◌, ℕ, ◌≤◌, List, [], ◌∷◌, length};
-ghost use Rattle.sdb_core.specs.Connects.{Connects};
-ghost use Rattle.sdb_core.specs.Framing.{AreFramed, AreMessages, AreNumbered, Brings, Count, bytes_taken, live, of};
-ghost use Rattle.sdb_core.specs.declared.read.Read.{Read};
-ghost use Rattle.sdb_core.specs.Reading.{IsRead};
-ghost use Rattle.sdb_core.specs.Story.{Answer, Framed, Full, Opened, Step, brought, framed_in};
-ghost use Rattle.sdb_core.specs.Tables.{Connections, Turns, no_connections};
-ghost use Rattle.sdb_keys.specs.declared.keys.Key.{Key};
+ghost use Rattle.sdb_core.specs.Laws.{AllInOrder, AreFew, LesserIsHeld, NoneWaits, PlainIsDurable};
 
-/// The table of connections stands for the connections of every story: it begins so, and what an event makes
-/// of it goes on so, whatever is released meanwhile. What the event brings is what the story tells.
-pub fn connections_follow_the_story()
-    ensures first { (released : Count) → Connects released no_connections [] }
-    ensures next { (released : Count) (t next : Connections) (s : Step) (story : List Step)
-        → Connects released t story → released story ≤ released (s ∷ story)
-        → Turns s.event s.answer (released story) (brought s) t next
-        → Connects released next (s ∷ story) × Brings s.event s.answer (brought s) story }
+/// What is released, what is held and what waits, one after the other, is all that arrived, in its order: so no
+/// arrival is lost, and none is answered twice or out of turn.
+pub fn all_arrivals_in_order()
+    ensures { AllInOrder }
 {}
 
-/// An Opened is answered Full exactly where 64 connections are live.
-pub fn full_exactly_where_64_are_live()
-    ensures { (released : Count) (t next : Connections) (c : ℕ) (answer : Answer) (story : List Step)
-        → Connects released t story → Turns (Opened c) answer (released story) [] t next
-        → (answer ≡ Full) ↔ (64 ≤ length (live released story)) }
+/// Where requests are executed, the lesser of 64 and of all that are in hand are held after it.
+pub fn the_lesser_is_held()
+    ensures { LesserIsHeld }
 {}
 
-/// The arrivals of a connection are numbered from 1, in their order.
-pub fn arrivals_are_numbered()
-    ensures { (story : List Step) → AreFramed story → (conn : ℕ) → AreNumbered 0 (of conn (framed_in story)) }
+/// After every story at most 64 answers are held; while the store is sound and fewer are, no request waits.
+pub fn none_waits_while_there_is_room()
+    ensures few { AreFew }
+    ensures none { NoneWaits }
 {}
 
-/// A connection has at most as many arrivals as bytes came.
-pub fn few_arrivals()
-    ensures { (story : List Step) (conn : ℕ) → AreMessages story → length (of conn (framed_in story)) ≤ bytes_taken story }
-{}
-
-/// Of a request one thing is read at most, under the same keys.
-pub fn one_read()
-    ensures { (keys : List Key) (w : Framed) (a b : Read) → IsRead keys w a → IsRead keys w b → a ≡ b }
+/// A plain answer is released only by a commit. Either that commit has committed, and the changes of all that were held
+/// are durable after it, or none of them changed anything.
+pub fn plain_answers_are_durable()
+    ensures { PlainIsDurable }
 {}

@@ -1,25 +1,19 @@
-//! The event core: one call, one event. What stands here so far is how connections and their bytes become
-//! arrivals: the table of connections, what is read of a request, and the line of those that wait.
+//! The event core: one call, one event. What came on connections is executed over the durable accounts, and answered
+//! once what it rests on is durable.
 #![tactic(auto)]
 
-mod entry;
-mod event;
+mod committing;
+mod events;
+mod executing;
 mod laws;
-mod line;
-mod opening;
-mod read;
-mod room;
-mod table;
+mod the_core;
 
-pub use event::{CoreFault, Event};
 pub use laws::{
-    arrivals_are_numbered, connections_follow_the_story, few_arrivals,
-    full_exactly_where_64_are_live, one_read,
+    all_arrivals_in_order, none_waits_while_there_is_room, plain_answers_are_durable,
+    the_lesser_is_held,
 };
-pub use line::{Held, Line, Queued};
-pub use read::Read;
-pub use room::Room;
-pub use table::Table;
+pub use sdb_arrivals::{CoreFault, Event};
+pub use the_core::Core;
 
 #[cfg(test)]
 mod tests;

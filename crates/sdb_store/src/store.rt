@@ -222,6 +222,7 @@ impl Store {
 
         ensures ok { OnOk result ((self.new.sound ≡ true) × (self.new.pending ≡ [])) }
         ensures err { OnErr result ((self.new.sound ≡ false) × (self.new.journal ≡ self.old.journal)) }
+        ensures pending { OnErr result (self.new.pending ≡ self.old.pending) }
         ensures time { Elapses (D.state disk.old) (D.state disk.new) }
         ensures told { (D.state disk.new).told ≡ (D.state disk.old).told }
         ensures cause { HasOpenCause (D.state disk.old).faults (D.state disk.new).faults result }

@@ -149,6 +149,46 @@ fn a_crash_after_any_call_leaves_a_prefix(rt: HostRuntime) -> Result<(), Fail> {
     Ok(())
 }
 
+// Three groups, each a domain, on a disk that stops after so many calls. Gives the disk, and whether all were committed.
+fn three_groups(alloc: Global, stop: u64) -> (MemoryDisk, bool) {
+    let mut disk = MemoryDisk::new(alloc, Numbers::new(alloc), Some(stop));
+    let ended = commit_three(alloc, &mut disk).is_ok();
+    (disk, ended)
+}
+
+fn commit_three<D: Disk>(alloc: Global, disk: &mut D) -> Result<(), OpenFault> {
+    let mut store = Store::start(alloc, disk)?;
+    commit_domain(alloc, "one", &mut store, disk)?;
+    commit_domain(alloc, "two", &mut store, disk)?;
+    commit_domain(alloc, "three", &mut store, disk)?;
+    Ok(())
+}
+
+// What a new start finds after three groups, a stop after so many calls, and a crash that fills what isn't synced.
+fn found_after(alloc: Global, stop: u64, fill: u8) -> Result<(u64, u64, u64), Fail> {
+    let (disk, _) = three_groups(alloc, stop);
+    let mut after = disk.crash(Some(fill));
+    let store = Store::start(alloc, &mut after)?;
+    numbers_of(alloc, &store)
+}
+
+#[test]
+fn the_byte_at_the_gate_decides_of_the_last_group(rt: HostRuntime) -> Result<(), Fail> {
+    let alloc = rt.alloc();
+    for calls in 2..100 {
+        let (_, ended) = three_groups(alloc, calls);
+        if ended {
+            // Without the last sync the gate is unsynced, and without the write before it what stood there stays.
+            assert_eq!(rt; found_after(alloc, calls - 1, 7)?, (2, 2, 0));
+            assert_eq!(rt; found_after(alloc, calls - 1, 1)?, (3, 3, 0));
+            assert_eq!(rt; found_after(alloc, calls - 2, 1)?, (2, 2, 0));
+            return Ok(());
+        }
+    }
+    assert!(rt; false, "the groups are never committed");
+    Ok(())
+}
+
 fn remove_store(rt: &impl Files) {
     for name in ["sdb.c0", "sdb.c1", "sdb.j0", "sdb.j1"] {
         let _ = fs::remove_file(rt, name);
@@ -162,6 +202,7 @@ fn real_files_keep_the_accounts(rt: HostRuntime) -> Result<(), Fail> {
     let mut disk = FileDisk::new(rt.clone()?);
     let mut committed = 0;
     story(alloc, &mut disk, &mut committed)?;
+    drop(disk);
     let mut again = FileDisk::new(rt.clone()?);
     let store = Store::start(alloc, &mut again)?;
     assert_eq!(rt; numbers_of(alloc, &store)?, (5, 5, 0));

@@ -1,5 +1,0 @@
-use Rattle.sdb_core.proofs.CountingLemmas.{numbered_from_one}
-use Rattle.sdb_core.proofs.laws.arrivals_are_numbered.Goals as goal
-
-pub returns : goal.returns
-returns c = numbered_from_one

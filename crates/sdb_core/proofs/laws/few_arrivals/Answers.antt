@@ -1,5 +1,0 @@
-use Rattle.sdb_core.proofs.CountingLemmas.{few_arrivals}
-use Rattle.sdb_core.proofs.laws.few_arrivals.Goals as goal
-
-pub returns : goal.returns
-returns c = few_arrivals

@@ -1,5 +1,0 @@
-use Rattle.sdb_core.proofs.FollowingLemmas.{full_live}
-use Rattle.sdb_core.proofs.laws.full_exactly_where_64_are_live.Goals as goal
-
-pub returns : goal.returns
-returns c = full_live

@@ -1,5 +1,0 @@
-use Rattle.sdb_core.proofs.ReadLemmas.{one_read_of}
-use Rattle.sdb_core.proofs.laws.one_read.Goals as goal
-
-pub returns : goal.returns
-returns c = λ keys w a b x y. one_read_of keys w.moment w.request a b x y

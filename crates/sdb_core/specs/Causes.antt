@@ -1,0 +1,80 @@
+-- Why a step answers what it answers: by event, and whatever the disk tells.
+use Rattle.std.specs.Prelude.{◌≡◌, ℕ, ◌+◌, ◌-◌, ◌<◌, ◌≤◌, ◌^◌, ◌⊎◌, Bool, true, false, min, length}
+use Rattle.sdb_arrivals.specs.Story.{Answer, Done, Full, Disk, NotAStore, OutOfMemory, Event, Opened, Piece, Ended, Commit, Work}
+use Rattle.sdb_arrivals.specs.Tables.{Connections}
+use Rattle.sdb_base.specs.Causes.{Rose}
+use Rattle.sdb_disk.specs.Disk.{State}
+use Rattle.sdb_store.specs.Kept.{Contents}
+use Rattle.sdb_core.specs.Kept.{View}
+
+-- what an event needs: numbers of connections rise, and fewer than 2^48 bytes come in all
+abbrev pub CanCome : Event → Connections → Type 0
+CanCome (Opened conn) t = t.last_opened < conn
+CanCome (Piece conn moment bytes) t = t.bytes_taken + length bytes < 2 ^ 48
+CanCome (Ended conn) t = Unit {0}
+CanCome Commit t = Unit {0}
+CanCome Work t = Unit {0}
+
+-- an event of a connection
+abbrev pub is_of_connection : Event → Bool
+is_of_connection (Opened conn) = true
+is_of_connection (Piece conn moment bytes) = true
+is_of_connection (Ended conn) = true
+is_of_connection Commit = false
+is_of_connection Work = false
+
+-- a count rose by two, or stands at its greatest value
+abbrev pub RoseTwice : ℕ → ℕ → Type 0
+RoseTwice before now = min (before + 2) (2 ^ 64 - 1) ≤ now
+
+-- a commit: a fault of the disk is told only where the count rose, and by two where a sound store ends unsound; on a
+-- sound store it isn't Done only where the count rose; where it is Done, it made at most two syncs; it ends unsound
+-- only where it isn't Done; a store that wasn't sound is so only where it is Done; a bad file is one of the four
+pub record CommitCause (a : Answer) (old new : Contents) (before now : State) : Type 0 where
+  pub later : before.faults ≤ now.faults
+  pub disk : a ≡ Disk → Rose before.faults now.faults
+  pub failed : old.sound ≡ true → (a ≡ Done → ⊥) → Rose before.faults now.faults
+  pub twice : old.sound ≡ true → new.sound ≡ false → a ≡ Disk → RoseTwice before.faults now.faults
+  pub syncs : old.sound ≡ true → a ≡ Done → now.syncs ≤ before.syncs + 2
+  pub lost : new.sound ≡ false → a ≡ Done → ⊥
+  pub found : old.sound ≡ false → new.sound ≡ true → a ≡ Done
+  pub again : new.sound ≡ true → (a ≡ Done) ⊎ (a ≡ Disk)
+  pub file : (k : ℕ) → a ≡ NotAStore k → k < 4
+  pub answers : a ≡ Full → ⊥
+
+-- background work: a sound store is lost exactly where a fault of the disk is told, and then the count rose
+pub record WorkCause (a : Answer) (old new : Contents) (before now : State) : Type 0 where
+  pub later : before.faults ≤ now.faults
+  pub disk : a ≡ Disk → (old.sound ≡ true) × (new.sound ≡ false) × Rose before.faults now.faults
+  pub kept : (a ≡ Disk → ⊥) → new.sound ≡ old.sound
+  pub answers : (a ≡ Done) ⊎ (a ≡ Disk) ⊎ (a ≡ OutOfMemory)
+
+-- the disk isn't touched, and the store is as sound as before
+pub record NoDisk (old new : Contents) (before now : State) : Type 0 where
+  pub sound : new.sound ≡ old.sound
+  pub faults : now.faults ≡ before.faults
+  pub syncs : now.syncs ≡ before.syncs
+  pub moment : now.moment ≡ before.moment
+
+-- an opening is done or Full
+pub record OpenedCause (a : Answer) (old new : View) (before now : State) : Type 0 where
+  pub disk : NoDisk old.store new.store before now
+  pub answers : (a ≡ Done) ⊎ (a ≡ Full)
+
+-- a piece is done, or there is no memory for it, and then the core is as before
+pub record PieceCause (a : Answer) (old new : View) (before now : State) : Type 0 where
+  pub disk : NoDisk old.store new.store before now
+  pub answers : (a ≡ Done) ⊎ ((a ≡ OutOfMemory) × (new ≡ old))
+
+-- an end is done
+pub record EndedCause (a : Answer) (old new : View) (before now : State) : Type 0 where
+  pub disk : NoDisk old.store new.store before now
+  pub answers : a ≡ Done
+
+-- the cause of an answer, by event
+abbrev pub HasCause : Event → Answer → View → View → State → State → Type 0
+HasCause (Opened conn) a old new before now = OpenedCause a old new before now
+HasCause (Piece conn moment bytes) a old new before now = PieceCause a old new before now
+HasCause (Ended conn) a old new before now = EndedCause a old new before now
+HasCause Commit a old new before now = CommitCause a old.store new.store before now
+HasCause Work a old new before now = WorkCause a old.store new.store before now
