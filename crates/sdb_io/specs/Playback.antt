@@ -69,13 +69,15 @@ is_up_to last (gives c (b ∷ bs)) = true
 is_up_to last (ends c) = true
 is_up_to last closes = true
 
--- the steps that were given, and those that weren't given whole
+-- the steps that were given
 abbrev pub given_of : List LinkStep → ℕ → List Step
 given_of steps at = map step_of (take at steps)
 
+-- the steps that are left, the one that is under way with them
 abbrev pub left_of : List LinkStep → ℕ → List Step
 left_of steps at = map step_of (drop at steps)
 
+-- the story that was played so far
 abbrev pub played_of : List LinkStep → ℕ → ℕ → ℕ → Played
 played_of steps at used last = record { given = given_of steps at; to_come = after_front used (left_of steps at); last = last }
 

@@ -1,5 +1,5 @@
 // Events of connections as a list.
-ghost use Rattle.std.specs.Prelude.{◌≡◌, ◌<◌, ◌++◌, ◌∷◌, [], length, OnOk, OnErr};
+ghost use Rattle.std.specs.Prelude.{◌≡◌, ◌<◌, ◌++◌, ◌∷◌, [], length, slice_get, OnOk, OnErr, Some};
 
 use sdb_base::{Bytes, OutOfMemory};
 use std::alloc::Global;
@@ -50,6 +50,14 @@ impl LinkScript {
         ensures { result ≡ length self.now }
     {
         self.steps.len()
+    }
+
+    /// The step at `place`, counted from 0.
+    pub fn at(&self, place: usize) -> &LinkStep
+        requires { place < length self.now }
+        ensures { slice_get self.now place ≡ Some (step_of result.now) }
+    {
+        &self.steps[place]
     }
 
     /// Puts a step at the end.

@@ -40,7 +40,7 @@ impl<W: Write> Sink for WriteSink<W> {
     }
 }
 
-/// One write, which is tried again where it was interrupted. One that takes no byte has failed.
+// One write, which is tried again where it was interrupted. One that takes no byte has failed.
 fn write_patiently<W: Write>(writer: &mut W, bytes: &[u8]) -> Result<usize, Failed>
     ensures bound { WritesAtMost result bytes.now }
     ensures some { IfOk result (λ n. 0 < n) }

@@ -39,7 +39,7 @@ impl<R: Read> Source for ReadSource<R> {
     }
 }
 
-/// One read, which is tried again where it was interrupted.
+// One read, which is tried again where it was interrupted.
 fn read_patiently<R: Read>(reader: &mut R, buf: &mut [u8]) -> Result<usize, Failed>
     ensures bound { ReadsAtMost result buf.new }
     ensures bytes { ReadConsumes (R.remaining reader.old) (R.remaining reader.new) result buf.new }
