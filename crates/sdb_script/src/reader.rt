@@ -67,9 +67,12 @@ impl ScriptReader {
             × Gives (2 ^ 40) result (with_more self.old given) self.new (T.left input.new) }
         ensures read { result ≡ Err ScriptFault.Read → Rose (T.faults input.old) (T.faults input.new) }
         ensures later { T.faults input.old ≤ T.faults input.new }
+        ensures within { self.new.at ≤ 2 ^ 40 }
     {
         prove!(self.at <= MOST_BYTES);
-        self.next_within(MOST_BYTES, input)
+        let next = self.next_within(MOST_BYTES, input);
+        prove!(self.at <= MOST_BYTES);
+        next
     }
 
     // The same of a source that may give fewer bytes than `limit`.

@@ -1,0 +1,9 @@
+pub mod CompleteLemmas
+pub mod DecidedLemmas
+pub mod FillLemmas
+pub mod FollowLemmas
+pub mod PlayLemmas
+pub mod RecordLemmas
+pub mod ShownLemmas
+pub mod StartLemmas
+pub mod StepLemmas
