@@ -1,0 +1,14 @@
+mod ActLemmas
+mod CommitLemmas
+mod CommitsLemmas
+mod DoLemmas
+mod FinishLemmas
+mod HandLemmas
+mod HostLemmas
+mod SendLemmas
+mod ShiftLemmas
+mod SilentLemmas
+mod ServingLemmas
+mod TurnLemmas
+mod TurnedLemmas
+mod WentLemmas
