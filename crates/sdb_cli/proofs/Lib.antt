@@ -2,4 +2,3 @@ pub mod AskedLemmas
 pub mod LinesLemmas
 pub mod LongLemmas
 pub mod RunsLemmas
-pub mod OnceLemmas

@@ -4,12 +4,12 @@ use Rattle.std.specs.declared.option.Option.{Option}
 use Rattle.std.specs.Io.KnownBytes.{Appends, Consumes, Keeps, IsAtEnd}
 use Rattle.std.proofs.KnownBytes.{Appends-nil, Appends-trans, Appends-kept, Consumes-nil, Consumes-trans, Consumes-kept}
 use Rattle.sdb_io.proofs.CallLemmas.{Front-after}
-use Rattle.sdb_cli.specs.Lines.{whole_lines, lines_of, CutsLines, IsOneLine}
+use Rattle.sdb_cli.specs.Lines.{whole_lines, lines_of, IsOneLine}
 use Rattle.sdb_cli.specs.Fed.{Fed}
 use Rattle.sdb_cli.specs.Plain.{Standing, Tells}
 use Rattle.sdb_cli.specs.Runs.{AnswersFront, Ends, Going, Stops, StopsFront, Finishes, Writes, WritesFront}
-use Rattle.sdb_cli.specs.declared.status.Status.{Status}
-use Rattle.sdb_cli.specs.declared.status.Status.TheVariants.{Done, Usage, ReadFault, OutOfMemory, WriteFault, InputTooLong}
+use Rattle.sdb_status.specs.declared.status.Status.{Status}
+use Rattle.sdb_status.specs.declared.status.Status.TheVariants.{Done, Usage, ReadFault, OutOfMemory, WriteFault, DiskFault, BadKeys, BadScript, NotAStore, LinkFault, InputTooLong}
 use Rattle.sdb_cli.proofs.LinesLemmas.{whole_lines-cuts, lines_of-cuts, Tells-none}
 
 pub Going-none : (start : Standing) (left written : Option (List ℕ)) → IsOneLine start.held → Going start start left left written written 0
@@ -72,6 +72,11 @@ pub Ends-stopped : (status : Status) (limit most : ℕ) (start mid : Standing) (
 Ends-stopped Done limit most start mid left between rest written so_far all n going inside fits stops = absurd stops
 Ends-stopped Usage limit most start mid left between rest written so_far all n going inside fits stops = absurd stops
 Ends-stopped InputTooLong limit most start mid left between rest written so_far all n going inside fits stops = absurd stops
+Ends-stopped DiskFault limit most start mid left between rest written so_far all n going inside fits stops = absurd stops
+Ends-stopped (BadKeys line) limit most start mid left between rest written so_far all n going inside fits stops = absurd stops
+Ends-stopped (BadScript at) limit most start mid left between rest written so_far all n going inside fits stops = absurd stops
+Ends-stopped (NotAStore file) limit most start mid left between rest written so_far all n going inside fits stops = absurd stops
+Ends-stopped LinkFault limit most start mid left between rest written so_far all n going inside fits stops = absurd stops
 Ends-stopped ReadFault limit most start mid left between rest written so_far all n going inside fits stops = (
   going.given,
   Consumes-kept left between rest going.given going.read stops.0,
@@ -112,6 +117,11 @@ Ends-finished Done limit start mid left rest written so_far all n going inside e
 Ends-finished Usage limit start mid left rest written so_far all n going inside ended finishes = absurd finishes
 Ends-finished ReadFault limit start mid left rest written so_far all n going inside ended finishes = absurd finishes
 Ends-finished InputTooLong limit start mid left rest written so_far all n going inside ended finishes = absurd finishes
+Ends-finished DiskFault limit start mid left rest written so_far all n going inside ended finishes = absurd finishes
+Ends-finished (BadKeys line) limit start mid left rest written so_far all n going inside ended finishes = absurd finishes
+Ends-finished (BadScript at) limit start mid left rest written so_far all n going inside ended finishes = absurd finishes
+Ends-finished (NotAStore file) limit start mid left rest written so_far all n going inside ended finishes = absurd finishes
+Ends-finished LinkFault limit start mid left rest written so_far all n going inside ended finishes = absurd finishes
 Ends-finished OutOfMemory limit start mid left rest written so_far all n going inside ended finishes =
     finish_front limit start mid left rest written so_far all n going inside ended finishes
 Ends-finished WriteFault limit start mid left rest written so_far all n going inside ended finishes =

@@ -1,7 +1,7 @@
+pub mod Commands
 pub mod Fed
 pub mod Line
 pub mod Lines
 pub mod Plain
 pub mod Standing
 pub mod Runs
-pub mod Statuses

@@ -1,14 +1,13 @@
 -- What a line asks for.
-use Rattle.std.specs.Prelude.{ℕ, List, length, Bool, true, false, nat_lt, Result, Ok, Err, if◌then◌else◌}
+use Rattle.std.specs.Prelude.{ℕ, List, length, nat_lt, Result, Ok, Err, if◌then◌else◌}
 use Rattle.std.specs.Result.{result_map_both}
 use Rattle.sdb_base.specs.Pairs.{NamedValues}
 use Rattle.sdb_form.specs.declared.fault.FormFault.{FormFault}
 use Rattle.sdb_form.specs.declared.fault.FormFault.TheVariants as fault
 use Rattle.sdb_form.specs.Answer.{params_of}
 use Rattle.sdb_tables.specs.declared.refusal.Refusal.{Refusal}
-use Rattle.sdb_tables.specs.declared.refusal.Refusal.TheVariants.{RequestTooLong, InvalidParameterValue, InvalidParameterCombination, InvalidAction, OutOfMemory}
+use Rattle.sdb_tables.specs.declared.refusal.Refusal.TheVariants.{RequestTooLong, InvalidParameterValue, InvalidParameterCombination, OutOfMemory}
 use Rattle.sdb_action.specs.declared.action.Action.{Action}
-use Rattle.sdb_action.specs.declared.action.Action.TheVariants.{CreateDomain, DeleteDomain, ListDomains, DomainMetadata, PutAttributes, BatchPutAttributes, GetAttributes, DeleteAttributes, BatchDeleteAttributes, Select}
 use Rattle.sdb_action.specs.declared.request.Request.{Request}
 use Rattle.sdb_action.specs.Actions.{action_of}
 use Rattle.sdb_action.specs.Asked.{asked as request_of}
@@ -24,23 +23,10 @@ refusal_of_fault fault.OutOfMemory = OutOfMemory
 abbrev pub line_params : List ℕ → Result NamedValues Refusal
 line_params line = result_map_both (λ params. params) refusal_of_fault (params_of line)
 
--- the actions that a line can ask for
-abbrev pub is_executed : Action → Bool
-is_executed CreateDomain = true
-is_executed DeleteDomain = true
-is_executed PutAttributes = true
-is_executed DeleteAttributes = true
-is_executed GetAttributes = true
-is_executed ListDomains = true
-is_executed DomainMetadata = true
-is_executed BatchPutAttributes = false
-is_executed BatchDeleteAttributes = false
-is_executed Select = false
-
--- the request of an action, where it is one that a line can ask for
+-- the request of an action
 abbrev pub requested : NamedValues → Result Action Refusal → Result Request Refusal
 requested params (Err refusal) = Err refusal
-requested params (Ok action) = if is_executed action then request_of action params else Err InvalidAction
+requested params (Ok action) = request_of action params
 
 -- what is asked by parameters, where the form has them
 abbrev pub asked_by : Result NamedValues Refusal → Result Request Refusal

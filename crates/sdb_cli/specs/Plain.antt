@@ -1,10 +1,10 @@
 -- What the lines of an input are answered.
-use Rattle.std.specs.Prelude.{◌≡◌, ◌⊎◌, ℕ, ◌+◌, List, [], ◌∷◌, ◌++◌, Option, Some, None, Result, Ok, Err}
+use Rattle.std.specs.Prelude.{◌≡◌, ◌⊎◌, ℕ, ◌+◌, List, [], ◌∷◌, ◌++◌, Some, Result, Ok, Err}
 use Rattle.sdb_pairs.specs.Accounts.{DomainEntries}
 use Rattle.sdb_tables.specs.declared.refusal.Refusal.{Refusal}
 use Rattle.sdb_tables.specs.declared.refusal.Refusal.TheVariants.{OutOfMemory}
 use Rattle.sdb_action.specs.declared.request.Request.{Request}
-use Rattle.sdb_answer.specs.Outcome.{after, outcome}
+use Rattle.sdb_answer.specs.Outcome.{after, bound_of, outcome}
 use Rattle.sdb_cost.specs.Units.{units_of}
 use Rattle.sdb_reply.specs.declared.outcome.Outcome.{Outcome}
 use Rattle.sdb_reply.specs.declared.outcome.RequestId.{RequestId}
@@ -25,13 +25,13 @@ moment = 0
 abbrev pub id_of : ℕ → RequestId
 id_of number = record { conn = 0; number = number }
 
--- the body of a request's outcome, with what it cost
-abbrev pub told_as : ℕ → Request → Outcome → List ℕ
-told_as number request outcome = body_text outcome (id_of number) (units_of (Some request) outcome 0)
+-- the body of a request's outcome, with what it cost; of a Select `bound` items are thought to be looked at
+abbrev pub told_as : ℕ → Request → (bound : ℕ) → Outcome → List ℕ
+told_as number request bound outcome = body_text outcome (id_of number) (units_of (Some request) outcome bound)
 
 -- the body that answers a request over the accounts
 abbrev pub reply : ℕ → DomainEntries → Request → List ℕ
-reply number accounts request = told_as number request (outcome accounts account moment request)
+reply number accounts request = told_as number request (bound_of accounts account request) (outcome accounts account moment request)
 
 -- the body that answers a line of which this is asked
 abbrev pub reply_to : ℕ → DomainEntries → Result Request Refusal → List ℕ

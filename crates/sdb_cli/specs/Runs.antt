@@ -4,8 +4,8 @@ use Rattle.std.specs.declared.option.Option.{Option}
 use Rattle.std.specs.Io.KnownBytes.{Appends, Consumes, Keeps, IsAtEnd}
 use Rattle.sdb_cli.specs.Lines.{lines_of, whole_lines, CutsLines, IsOneLine}
 use Rattle.sdb_cli.specs.Plain.{Standing, Tells}
-use Rattle.sdb_cli.specs.declared.status.Status.{Status}
-use Rattle.sdb_cli.specs.declared.status.Status.TheVariants.{Done, Usage, ReadFault, OutOfMemory, WriteFault, InputTooLong}
+use Rattle.sdb_status.specs.declared.status.Status.{Status}
+use Rattle.sdb_status.specs.declared.status.Status.TheVariants.{Done, Usage, ReadFault, OutOfMemory, WriteFault, DiskFault, BadKeys, BadScript, NotAStore, LinkFault, InputTooLong}
 
 -- a front of the text is written
 abbrev pub AppendsFront : Option (List ℕ) → Option (List ℕ) → List ℕ → Type 0
@@ -44,6 +44,11 @@ AnswersFront limit start left rest written all =
 abbrev pub Ends : Status → (limit : ℕ) → Standing → (left rest written all : Option (List ℕ)) → Type 0
 Ends Done = AnswersAll
 Ends Usage = λ limit start left rest written all. ⊥
+Ends DiskFault = λ limit start left rest written all. ⊥
+Ends (BadKeys line) = λ limit start left rest written all. ⊥
+Ends (BadScript at) = λ limit start left rest written all. ⊥
+Ends (NotAStore file) = λ limit start left rest written all. ⊥
+Ends LinkFault = λ limit start left rest written all. ⊥
 Ends ReadFault = AnswersWhole
 Ends OutOfMemory = AnswersFront
 Ends WriteFault = AnswersFront
@@ -73,6 +78,11 @@ Stops WriteFault = StopsFront
 Stops Done = λ most start left rest written all. ⊥
 Stops Usage = λ most start left rest written all. ⊥
 Stops InputTooLong = λ most start left rest written all. ⊥
+Stops DiskFault = λ most start left rest written all. ⊥
+Stops (BadKeys line) = λ most start left rest written all. ⊥
+Stops (BadScript at) = λ most start left rest written all. ⊥
+Stops (NotAStore file) = λ most start left rest written all. ⊥
+Stops LinkFault = λ most start left rest written all. ⊥
 
 -- what the last step says, where the input is at its end
 abbrev pub Finishes : Status → Standing → (written all : Option (List ℕ)) → Type 0
@@ -82,3 +92,8 @@ Finishes WriteFault start written all = WritesFront written all (Tells lines_of 
 Finishes ReadFault start written all = ⊥
 Finishes Usage start written all = ⊥
 Finishes InputTooLong start written all = ⊥
+Finishes DiskFault start written all = ⊥
+Finishes (BadKeys line) start written all = ⊥
+Finishes (BadScript at) start written all = ⊥
+Finishes (NotAStore file) start written all = ⊥
+Finishes LinkFault start written all = ⊥

@@ -1,6 +1,7 @@
 // One line answered over the accounts.
 ghost use Rattle.std.specs.Prelude.{◌≡◌, ◌≤◌, [], ◌∷◌, ◌++◌, IfOk, OnOk, OnErr};
-ghost use Rattle.sdb_answer.specs.Outcome.{IsNoBatch, after, changes_of};
+ghost use Rattle.sdb_action.specs.Lawful.{IsLawfulRequest};
+ghost use Rattle.sdb_answer.specs.Outcome.{after, changes_of};
 ghost use Rattle.sdb_cli.specs.Plain.{Answered, account, after_line, answer as answer_to, id_of, reply};
 ghost use Rattle.sdb_reply.specs.Faults.{refusal_text};
 
@@ -95,7 +96,7 @@ fn execute(
     out: &mut Gathered,
 ) -> Result<(), OutOfMemory>
     requires room { 1025 ≤ out.old.spare }
-    requires single { IsNoBatch request.now }
+    requires asked { IsLawfulRequest request.now }
     ensures accounts { OnOk result (accounts.new ≡ after accounts.old account request.now) }
     ensures bytes { OnOk result (out.new.bytes ≡ out.old.bytes ++ (reply number accounts.old request.now ++ 10 ∷ [])) }
     ensures same_accounts { OnErr result (accounts.new ≡ accounts.old) }
@@ -119,7 +120,7 @@ fn tell(
     number: u64,
     request: &Request,
 ) -> Result<Told, OutOfMemory>
-    requires { IsNoBatch request.now }
+    requires { IsLawfulRequest request.now }
     ensures body { IfOk result (λ told. told.body.bytes ≡ reply number accounts.now request.now) }
     ensures changes { IfOk result (λ told. told.changes ≡ changes_of accounts.now account request.now) }
 {

@@ -9,8 +9,8 @@ ghost use Rattle.sdb_cli.specs.Standing.{standing};
 
 use crate::gathered::Gathered;
 use crate::session::Session;
-use crate::status::Status;
 use sdb_io::{Sink, Source, write_whole};
+use sdb_status::Status;
 use std::alloc::Global;
 
 // How many bytes are read at most at a time.

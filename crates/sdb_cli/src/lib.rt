@@ -1,4 +1,4 @@
-//! The commands of the program, over a source of input and a sink of output.
+//! The commands of the program, over sources of keys and of input, a sink of output, links, a disk and a clock.
 #![tactic(auto)]
 
 mod answer;
@@ -8,10 +8,17 @@ mod gathered;
 mod held;
 mod line;
 mod session;
-mod status;
 
 pub use command::run;
-pub use status::Status;
+pub use sdb_status::Status;
 
 #[cfg(test)]
 mod tests;
+#[cfg(test)]
+mod tests_of_batches;
+#[cfg(test)]
+mod tests_of_replay;
+#[cfg(test)]
+mod tests_of_selects;
+#[cfg(test)]
+mod tests_of_serve;

@@ -1,11 +1,11 @@
 // The request of a line.
 ghost use Rattle.std.specs.Prelude.{◌≡◌, IfOk};
-ghost use Rattle.sdb_answer.specs.Outcome.{IsNoBatch};
-ghost use Rattle.sdb_cli.specs.Line.{asked, is_executed as executes, line_params};
+ghost use Rattle.sdb_action.specs.Lawful.{IsLawfulRequest};
+ghost use Rattle.sdb_cli.specs.Line.{asked, line_params};
 ghost use Rattle.sdb_tables.specs.Answers.{Answers};
 
 use crate::held::MOST_LINE;
-use sdb_action::{Action, Request, read_action, read_request};
+use sdb_action::{Request, read_action, read_request};
 use sdb_base::Params;
 use sdb_form::FormFault;
 use sdb_tables::Refusal;
@@ -15,16 +15,13 @@ use std::alloc::Global;
 /// fields and lists.
 pub(crate) fn read_line(alloc: Global, line: &[u8]) -> Result<Request, Refusal>
     ensures answer { Answers (asked line.now) result }
-    ensures single { IfOk result IsNoBatch }
+    ensures lawful { IfOk result IsLawfulRequest }
 {
     if line.len() > MOST_LINE {
         return Err(Refusal::RequestTooLong);
     }
     let params = read_params(alloc, line)?;
     let action = read_action(&params)?;
-    if !is_executed(action) {
-        return Err(Refusal::InvalidAction);
-    }
     read_request(alloc, action, &params)
 }
 
@@ -37,14 +34,4 @@ fn read_params(alloc: Global, form: &[u8]) -> Result<Params, Refusal>
         Err(FormFault::Repeated(_)) => Err(Refusal::InvalidParameterCombination),
         Err(FormFault::OutOfMemory) => Err(Refusal::OutOfMemory),
     }
-}
-
-// Whether lines can ask for the action yet.
-fn is_executed(action: Action) -> bool
-    ensures { result ≡ executes action }
-{
-    !matches!(
-        action,
-        Action::BatchPutAttributes | Action::BatchDeleteAttributes | Action::Select
-    )
 }

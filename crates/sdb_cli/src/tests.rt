@@ -2,7 +2,11 @@
 use crate::bare::bare;
 use crate::{Status, run};
 use sdb_base::{Bytes, Numbers, Text, Words};
-use sdb_io::{Failed, MemorySink, MemorySource, Source};
+use sdb_disk::{Disk, MemoryDisk};
+use sdb_io::{
+    Clock, Failed, LinkScript, Links, MemoryClock, MemoryLinks, MemorySink, MemorySource, Sink,
+    Source,
+};
 use std::alloc::Global;
 use std::test::Fail;
 
@@ -29,7 +33,7 @@ impl Source for Dripping {
     }
 }
 
-fn words(alloc: Global, texts: &[&str]) -> Result<Words, Fail> {
+pub(crate) fn words(alloc: Global, texts: &[&str]) -> Result<Words, Fail> {
     let mut words = Words::new(alloc);
     for text in texts {
         words.push(Text::from_str(alloc, text)?)?;
@@ -55,6 +59,20 @@ fn streams(
     Ok((source, MemorySink::new(alloc, writes)))
 }
 
+// `run` with nothing said of it, so that no test's proof has to look at its contract.
+pub(crate) fn run_plainly<S: Source, T: Source, K: Sink, L: Links, D: Disk, C: Clock>(
+    alloc: Global,
+    words: &Words,
+    keys: &mut S,
+    input: &mut T,
+    output: &mut K,
+    links: &mut L,
+    disk: &mut D,
+    clock: &mut C,
+) -> Status {
+    run(alloc, words, keys, input, output, links, disk, clock)
+}
+
 // The status of a run, and what it wrote.
 fn ran(
     alloc: Global,
@@ -63,7 +81,21 @@ fn ran(
     fails: [bool; 2],
 ) -> Result<(Status, MemorySink), Fail> {
     let (mut input, mut output) = streams(alloc, bytes, fails)?;
-    let status = run(alloc, &words(alloc, texts)?, &mut input, &mut output);
+    let mut keys = MemorySource::new(Bytes::new(alloc), Numbers::new(alloc));
+    let mut links = MemoryLinks::new(alloc, LinkScript::new(alloc), Numbers::new(alloc));
+    let mut disk = MemoryDisk::new(alloc, Numbers::new(alloc), None);
+    let mut clock = MemoryClock::new(Numbers::new(alloc));
+    let words = words(alloc, texts)?;
+    let status = run_plainly(
+        alloc,
+        &words,
+        &mut keys,
+        &mut input,
+        &mut output,
+        &mut links,
+        &mut disk,
+        &mut clock,
+    );
     Ok((status, output))
 }
 
@@ -173,7 +205,7 @@ fn pieces_of_one_byte_give_the_same_answers(rt: HostRuntime) -> Result<(), Fail>
 }
 
 // The code of an answer's refusal, or `done`.
-fn code_of(answer: &str) -> &str {
+pub(crate) fn code_of(answer: &str) -> &str {
     match answer.split_once("<Code>") {
         Some((_, rest)) => match rest.split_once("</Code>") {
             Some((code, _)) => code,
@@ -184,7 +216,7 @@ fn code_of(answer: &str) -> &str {
 }
 
 // The last of the answers to these lines.
-fn last_answer(alloc: Global, lines: &str) -> Result<String, Fail> {
+pub(crate) fn last_answer(alloc: Global, lines: &str) -> Result<String, Fail> {
     let output = answered(alloc, lines.as_bytes())?;
     let text = std::str::from_utf8(output.written())?;
     let (_, answer) = text.rsplit_once("<?xml").ok_or("no answer")?;
@@ -215,9 +247,9 @@ fn refused_lines_have_their_codes(rt: HostRuntime) -> Result<(), Fail> {
             "Action=GetAttributes&DomainName=books&ItemName=i",
             "NoSuchDomain",
         ),
-        ("Action=Select&SelectExpression=x", "InvalidAction"),
-        ("Action=Select", "InvalidAction"),
-        ("Action=BatchPutAttributes", "InvalidAction"),
+        ("Action=Select&SelectExpression=x", "InvalidQueryExpression"),
+        ("Action=Select", "MissingParameter"),
+        ("Action=BatchPutAttributes", "MissingParameter"),
         (
             "Action=ListDomains&MaxNumberOfDomains=0",
             "InvalidParameterValue",
@@ -390,13 +422,23 @@ fn faults_have_their_statuses(rt: HostRuntime) -> Result<(), Fail> {
     assert_eq!(rt; output.written(), b"".as_slice());
     let (status, _) = ran(rt.alloc(), &["bare"], BOOKS, [false, true])?;
     assert_eq!(rt; status.number(), 4);
-    assert_eq!(rt; status.line(), "sdb: writing failed");
+    assert_eq!(rt;
+        status.to_string(rt.alloc())?.as_str(),
+        "sdb: writing failed"
+    );
     Ok(())
 }
 
 #[test]
 fn other_words_are_usage(rt: HostRuntime) -> Result<(), Fail> {
-    for texts in [[].as_slice(), &["--help"], &["bare", "x"], &["serve"]] {
+    for texts in [
+        [].as_slice(),
+        &["--help"],
+        &["bare", "x"],
+        &["serve"],
+        &["serve", "0", "5"],
+        &["serve", "080", "5"],
+    ] {
         let (status, output) = ran(rt.alloc(), texts, BOOKS, [false, false])?;
         assert_eq!(rt; status.number(), 1);
         assert_eq!(rt; output.written(), b"".as_slice());

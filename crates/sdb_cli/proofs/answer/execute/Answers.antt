@@ -1,6 +1,6 @@
-use Rattle.std.proofs.Common.{◌++◌, [], ◌∷◌, sym, ◌∙◌, ap, append_assoc}
+use Rattle.std.proofs.Common.{◌++◌, [], ◌∷◌, ◌∙◌, ap, append_assoc}
 use Rattle.sdb_pairs.specs.Changes.{state}
-use Rattle.sdb_answer.proofs.OutcomeLemmas.{changes_lead_after, once-no_batch}
+use Rattle.sdb_answer.proofs.OutcomeLemmas.{lawful_lead_after}
 use Rattle.sdb_cli.specs.Plain.{account}
 use Rattle.sdb_cli.proofs.answer.execute.Goals as goal
 
@@ -8,7 +8,7 @@ pub returns-clause-accounts : goal.returns-clause-accounts
 returns-clause-accounts c =
     c.in_ok-apply.ensures.ok
     ∙ ap (state c.args.accounts.now) c.in_ok-told.ensures.changes
-    ∙ changes_lead_after c.args.accounts.now account c.args.request.now c.apply.ensures.accounts (once-no_batch c.args.request.now c.requires.single)
+    ∙ lawful_lead_after c.args.accounts.now account c.args.request.now c.apply.ensures.accounts c.requires.asked
 
 pub returns-clause-bytes : goal.returns-clause-bytes
 returns-clause-bytes c =

@@ -2,9 +2,9 @@ use Rattle.std.proofs.Common.{inl, inr, arith, sym, ◌∙◌, subst}
 use Rattle.std.proofs.lemmas.Result.{err_from_is_err_and}
 use Rattle.sdb_tables.specs.Answers.{Answers}
 use Rattle.sdb_cli.proofs.LongLemmas.{asked-long}
-use Rattle.sdb_cli.proofs.AskedLemmas.{asked-params_err, asked-action_err, asked-not_executed, asked-request}
-use Rattle.sdb_answer.specs.Outcome.{IsNoBatch}
-use Rattle.sdb_cli.proofs.OnceLemmas.{answers_holds, request-no_batch}
+use Rattle.sdb_cli.proofs.AskedLemmas.{answers_holds, asked-params_err, asked-action_err, asked-request}
+use Rattle.sdb_action.specs.Lawful.{IsLawfulRequest}
+use Rattle.sdb_action.proofs.LawfulLemmas.{asked-lawful}
 use Rattle.sdb_cli.proofs.line.read_line.Goals as goal
 
 pub returns-then-line-gt-MOST_LINE-clause-answer : goal.returns-then-line-gt-MOST_LINE-clause-answer
@@ -20,15 +20,10 @@ returns-in_err-action-clause-answer c =
     let p = err_from_is_err_and c.from_residual-in_err-action.result c.from_residual-in_err-action.ensures.1 in
     rw (p.1, p.2) (inr (asked-action_err c.args.line.now c.in_ok-params.params c.in_err-action.field-0.0 (omega arith) c.in_ok-params.ensures (sym c.read_action.ensures ∙ c.in_err-action.was)))
 
-pub returns-then-not-is_executed-clause-answer : goal.returns-then-not-is_executed-clause-answer
-returns-then-not-is_executed-clause-answer c =
-    inr (asked-not_executed c.args.line.now c.in_ok-params.params c.in_ok-action.action (omega arith) c.in_ok-params.ensures (sym c.read_action.ensures ∙ c.in_ok-action.was) (sym c.is_executed.ensures ∙ c.if-not-is_executed.true))
-
 pub returns-clause-answer : goal.returns-clause-answer
 returns-clause-answer c =
-    let same = asked-request c.args.line.now c.in_ok-params.params c.in_ok-action.action (omega arith) c.in_ok-params.ensures (sym c.read_action.ensures ∙ c.in_ok-action.was) (sym c.is_executed.ensures ∙ c.if-not-is_executed.false) in
+    let same = asked-request c.args.line.now c.in_ok-params.params c.in_ok-action.action (omega arith) c.in_ok-params.ensures (sym c.read_action.ensures ∙ c.in_ok-action.was) in
     subst (λ given. Answers given c.read_request.result) (sym same) c.read_request.ensures
 
-pub returns-clause-single : goal.returns-clause-single
-returns-clause-single c =
-    answers_holds IsNoBatch _ c.read_request.result c.read_request.ensures (request-no_batch c.in_ok-action.action c.in_ok-params.params (sym c.is_executed.ensures ∙ c.if-not-is_executed.false))
+pub returns-clause-lawful : goal.returns-clause-lawful
+returns-clause-lawful c = answers_holds IsLawfulRequest _ c.read_request.result c.read_request.ensures (asked-lawful c.in_ok-action.action c.in_ok-params.params)

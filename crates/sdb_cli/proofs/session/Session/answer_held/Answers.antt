@@ -1,4 +1,4 @@
-use Rattle.std.proofs.Common.{◌++◌, [], ◌∷◌, List, ℕ, inl, refl, sym, subst}
+use Rattle.std.proofs.Common.{◌++◌, [], ◌∷◌, List, ℕ, inl, sym, subst}
 use Rattle.std.proofs.lemmas.Result.{on_ok_weaker}
 use Rattle.sdb_tables.specs.declared.refusal.Refusal.TheVariants.{RequestTooLong}
 use Rattle.sdb_reply.specs.Faults.{refusal_text}
