@@ -45,6 +45,7 @@ pub record Covers (kept : Kept) (log : List RowWas) : Type 0 where
   pub rows : (name : List ℕ) → found text_cmp kept.rows name ≡ Some [] → row_logged name log ≡ true
   pub names : (name : List ℕ) → found text_cmp kept.names.counts name ≡ Some 0 → name_logged name log ≡ true
 
+-- what is hidden of an open domain is named by its log
 abbrev pub IsCovered : Opening → Type 0
 IsCovered o = Covers o.kept o.log
 
