@@ -11,7 +11,7 @@ cd "$work"
 git init -q .
 mkdir -p crates/request_bench/src
 cp "$top/tools/bench/requests.txt" crates/request_bench/src/main.rt
-echo 'request_bench: sdb_base sdb_core sdb_form sdb_http sdb_keys sdb_sign' >> crates.txt
+echo 'request_bench: sdb_arrivals sdb_base sdb_form sdb_http sdb_keys sdb_sign' >> crates.txt
 python3 "$top/tools/bench/sdb_sign.py" forms > forms
 cd crates/request_bench
 printf '1\n1\n1\n' | cat - ../../forms | head -4 | rt run > /dev/null

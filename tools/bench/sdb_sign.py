@@ -91,5 +91,10 @@ if sys.argv[1] == "make":
 elif sys.argv[1] == "forms":
     print(signed(get()))
     print(put(5))
+elif sys.argv[1] == "create":
+    params = get()
+    params["Action"] = "CreateDomain"
+    del params["ItemName"]
+    print(signed(params))
 else:
     show(sys.argv[2], sys.argv[3])
