@@ -1,7 +1,8 @@
 /* A client and an echo for tools/bench/serve.py.
  * serve ask PORT CONNECTIONS QUESTIONS FILE LENGTH: sends the file's bytes so many times, on each connection in turn, reads
  *   LENGTH bytes for each, and prints nanoseconds a question. Each turn asks on every connection, then reads every answer.
- * serve echo PORT LENGTH ANSWER: serves one connection; for each LENGTH bytes that come it sends ANSWER bytes. */
+ * serve echo PORT LENGTH ANSWER: serves one connection after the other; for each LENGTH bytes that come it sends ANSWER
+ *   bytes. */
 #include <arpa/inet.h>
 #include <netinet/tcp.h>
 #include <stdio.h>
@@ -57,20 +58,29 @@ static int ask(int port, int count, long questions, const char *name, long lengt
     return 0;
 }
 
-static int echo(int port, long length, long answer) {
-    struct sockaddr_in address = at(port);
-    int one = 1, s = socket(AF_INET, SOCK_STREAM, 0);
-    setsockopt(s, SOL_SOCKET, SO_REUSEADDR, &one, sizeof one);
-    if (bind(s, (struct sockaddr *)&address, sizeof address) < 0 || listen(s, 1) < 0) return 2;
-    int c = accept(s, NULL, NULL);
-    setsockopt(c, IPPROTO_TCP, TCP_NODELAY, &one, sizeof one);
+/* Answers what comes until the peer ends. */
+static int answer(int c, long length, long size) {
     for (;;) {
         for (long got = 0; got < length;) {
             ssize_t n = read(c, room, length - got);
             if (n <= 0) return 0;
             got += n;
         }
-        if (write(c, bytes, answer) != answer) return 3;
+        if (write(c, bytes, size) != size) return 3;
+    }
+}
+
+static int echo(int port, long length, long size) {
+    struct sockaddr_in address = at(port);
+    int one = 1, s = socket(AF_INET, SOCK_STREAM, 0);
+    setsockopt(s, SOL_SOCKET, SO_REUSEADDR, &one, sizeof one);
+    if (length > ROOM || size > ROOM || bind(s, (struct sockaddr *)&address, sizeof address) < 0 || listen(s, 1) < 0) return 2;
+    for (;;) {
+        int c = accept(s, NULL, NULL);
+        if (c < 0) return 2;
+        setsockopt(c, IPPROTO_TCP, TCP_NODELAY, &one, sizeof one);
+        if (answer(c, length, size)) return 3;
+        close(c);
     }
 }
 

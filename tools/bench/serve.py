@@ -2,8 +2,9 @@
 """Times `sdb serve` over the loopback, in one run with what it is compared with.
 
 Signed GetAttributes a second on one keep-alive connection beside a bare echo of as many bytes, and over 32 connections;
-durable puts a second beside sqlite's (WAL, synchronous=FULL, one insert a transaction) on the same disk. It needs a C
-compiler. Usage: tools/bench/serve.py [PROGRAM], with crates/sdb/out/sdb where no program is named.
+durable puts a second beside sqlite's (WAL, synchronous=FULL, one insert a transaction) on the same disk. Of the first it
+shows the processor's time of a request too, in the server and in the echo, which tells more where the machine is busy. It
+needs a C compiler. Usage: tools/bench/serve.py [PROGRAM], with crates/sdb/out/sdb where no program is named.
 """
 
 import base64
@@ -19,7 +20,7 @@ import time
 from urllib.parse import quote
 
 TOP = pathlib.Path(__file__).resolve().parents[2]
-GETS, PUTS = 50_000, 2_000
+GETS, PUTS, TURNS = 20_000, 1_000, 5
 
 
 def request(port, **parameters):
@@ -57,8 +58,46 @@ def free_port():
 
 
 def asked(client, port, connections, questions, file, length):
+    """Nanoseconds a question."""
     words = [client, "ask", str(port), str(connections), str(questions), str(file), str(length)]
     return float(subprocess.run(words, check=True, capture_output=True, text=True).stdout)
+
+
+def on_processor(process):
+    """The nanoseconds that a process was on a processor."""
+    with open(f"/proc/{process.pid}/schedstat") as told:
+        return int(told.read().split()[0])
+
+
+def gets(client, echo, echo_port, server, port, get, length):
+    """What a question takes of the echo, of the server, and of the server over 32 connections; and on the processor."""
+    taken, busy = [], []
+    for process, at, connections in ((echo, echo_port, 1), (server, port, 1), (server, port, 32)):
+        before = on_processor(process)
+        taken.append(asked(client, at, connections, GETS, get, length))
+        busy.append((on_processor(process) - before) / GETS)
+    return taken, busy
+
+
+def show_gets(turns):
+    bare, one, many = (min(turn[0][place] for turn in turns) for place in range(3))
+    print(f"a second: echo {1e9 / bare:.0f}, GetAttributes {1e9 / one:.0f} ({bare / one:.2f} of it), over 32 connections {1e9 / many:.0f} ({one / many:.2f} of one's)")
+    bare, one, many = (min(turn[1][place] for turn in turns) / 1000 for place in range(3))
+    print(f"processor's time of one: echo {bare:.1f} us, GetAttributes {one:.1f} us, over 32 connections {many:.1f} us")
+
+
+def inserts(path):
+    """The nanoseconds of a durable insert by sqlite."""
+    base = sqlite3.connect(path, isolation_level=None)
+    base.execute("pragma journal_mode=wal")
+    base.execute("pragma synchronous=full")
+    base.execute("create table pairs (item text, name text, value text)")
+    start = time.monotonic()
+    for _ in range(PUTS):
+        base.execute("insert into pairs values ('i1', 'title', 'Emma')")
+    taken = (time.monotonic() - start) / PUTS
+    base.close()
+    return taken * 1e9
 
 
 def main():
@@ -71,6 +110,7 @@ def main():
         port, echo_port = free_port(), free_port()
         server = subprocess.Popen([program, "serve", str(port), "4000000000"], cwd=folder, stderr=subprocess.PIPE, text=True)
         print(server.stderr.readline().rstrip(), flush=True)
+        echo = None
         try:
             answer(port, request(port, Action="CreateDomain", DomainName="books"))
             put = request(port, Action="PutAttributes", DomainName="books", ItemName="i1", **{"Attribute.1.Name": "title", "Attribute.1.Value": "Emma"})
@@ -79,29 +119,18 @@ def main():
             get_length = answer(port, get)
             (folder / "get").write_bytes(get)
             (folder / "put").write_bytes(put)
-            for _ in range(3):
-                echo = subprocess.Popen([client, "echo", str(echo_port), str(len(get)), str(get_length)])
-                time.sleep(0.2)
-                bare = asked(client, echo_port, 1, GETS, folder / "get", get_length)
-                echo.wait()
-                one = asked(client, port, 1, GETS, folder / "get", get_length)
-                many = asked(client, port, 32, GETS, folder / "get", get_length)
-                print(f"echo: {1e9 / bare:.0f} a second; GetAttributes: {1e9 / one:.0f} ({bare / one:.2f} of it); over 32 connections: {1e9 / many:.0f}", flush=True)
-            for turn in range(3):
-                puts = asked(client, port, 1, PUTS, folder / "put", put_length)
-                base = sqlite3.connect(folder / f"sqlite{turn}", isolation_level=None)
-                base.execute("pragma journal_mode=wal")
-                base.execute("pragma synchronous=full")
-                base.execute("create table pairs (item text, name text, value text)")
-                start = time.monotonic()
-                for _ in range(PUTS):
-                    base.execute("insert into pairs values ('i1', 'title', 'Emma')")
-                inserts = (time.monotonic() - start) / PUTS
-                base.close()
-                print(f"durable puts: {1e9 / puts:.0f} a second; sqlite: {1 / inserts:.0f} ({inserts * 1e9 / puts:.2f} of it)", flush=True)
+            echo = subprocess.Popen([client, "echo", str(echo_port), str(len(get)), str(get_length)])
+            time.sleep(0.5)
+            show_gets([gets(client, echo, echo_port, server, port, folder / "get", get_length) for _ in range(TURNS)])
+            turns = [(asked(client, port, 1, PUTS, folder / "put", put_length), inserts(folder / f"sqlite{turn}")) for turn in range(TURNS)]
+            puts, rows = min(turn[0] for turn in turns), min(turn[1] for turn in turns)
+            print(f"durable puts: {1e9 / puts:.0f} a second; sqlite: {1e9 / rows:.0f} ({rows / puts:.2f} of it); ratios of the turns: " + ", ".join(f"{turn[1] / turn[0]:.2f}" for turn in turns), flush=True)
         finally:
             server.kill()
             server.wait()
+            if echo is not None:
+                echo.kill()
+                echo.wait()
 
 
 main()

@@ -410,9 +410,16 @@ def hold(program, folder):
     check(not missing, f"never done: {missing}")
 
 
+def hold_life(program, folder):
+    """The store whose life examples/life tells."""
+    life = TOP / "examples" / "life"
+    run = subprocess.run([life / "life.sh", program, str(free_port())], cwd=folder, stdout=subprocess.PIPE, timeout=SECONDS)
+    check(run.stdout == (life / "life.out").read_bytes(), f"the life of a store comes to {run.stdout.decode()}")
+
+
 def main():
     program = sys.argv[1] if len(sys.argv) > 1 else str(TOP / "tools" / "sdb")
-    for part in (hold_words, hold_turns, hold):
+    for part in (hold_words, hold_turns, hold, hold_life):
         with tempfile.TemporaryDirectory(prefix="sdb-serve-") as name:
             folder = pathlib.Path(name)
             (folder / "sdb.keys").write_text(f"# two accounts\n1 {KEY} {SECRET}\n2 {OTHER_KEY} {OTHER_SECRET}\n")

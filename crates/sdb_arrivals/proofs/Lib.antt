@@ -1,8 +1,11 @@
+pub mod AlikeLemmas
 mod ArrivingLemmas
+mod ChangingLemmas
 mod CountingLemmas
 mod EntryLemmas
 pub mod FollowingLemmas
-mod StandingLemmas
+pub mod StandingLemmas
+mod StillLemmas
 mod ReadLemmas
 mod ReleasingLemmas
 mod TableLemmas

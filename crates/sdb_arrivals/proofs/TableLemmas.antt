@@ -9,7 +9,8 @@ use Rattle.sdb_arrivals.specs.Queues.{Queues}
 use Rattle.sdb_arrivals.specs.Inside.{ClosesAt, IsTable, IsUpAt, SetsAccepted, held_sum, table_of}
 use Rattle.sdb_arrivals.specs.Tables.{Alters, Connection, Connections, RiseAbove, closed, conns_of, fresh, is_up_as, open_in, stays, swept, with_entries}
 use Rattle.sdb_arrivals.proofs.EntryLemmas.{all-append, all-back, all-filter, all-front, all-map}
-use Rattle.sdb_arrivals.proofs.FollowingLemmas.{order_fresh, order_set, order_swept}
+use Rattle.sdb_arrivals.proofs.ChangingLemmas.{order_set}
+use Rattle.sdb_arrivals.proofs.FollowingLemmas.{order_fresh, order_swept}
 
 -- ---- a place
 

@@ -1,3 +1,4 @@
+pub mod Alike
 pub mod Connects
 pub mod Framing
 pub mod Inside

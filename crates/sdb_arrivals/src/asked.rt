@@ -24,6 +24,7 @@ impl Model for Asked {
 }
 
 impl Asked {
+    /// Takes a request that is within the limits.
     pub fn new(request: Request) -> Asked
         requires { IsLawfulRequest request }
         ensures { result ≡ request }
@@ -31,6 +32,7 @@ impl Asked {
         Asked { request }
     }
 
+    /// The request.
     pub fn request(&self) -> &Request
         ensures same { result.now ≡ self.now }
         ensures lawful { IsLawfulRequest self.now }

@@ -1,6 +1,7 @@
 //! The laws of connections and framing.
 
 ghost use Rattle.std.specs.Prelude.{◌≡◌, ◌↔◌, ℕ, ◌≤◌, List, [], ◌∷◌, length};
+ghost use Rattle.sdb_arrivals.specs.Alike.{AlikeAreSame};
 ghost use Rattle.sdb_arrivals.specs.Connects.{Connects};
 ghost use Rattle.sdb_arrivals.specs.Framing.{AreFramed, AreMessages, AreNumbered, Brings, Count, bytes_taken, live, of};
 ghost use Rattle.sdb_arrivals.specs.declared.read.Read.{Read};
@@ -39,4 +40,10 @@ pub fn few_arrivals()
 /// Of a request one thing is read at most, under the same keys.
 pub fn one_read()
     ensures { (keys : List Key) (w : Framed) (a b : Read) → IsRead keys w a → IsRead keys w b → a ≡ b }
+{}
+
+/// What arrives is a function of what happens, of its answers and of the keys: where the same happened in two stories
+/// and was answered alike, the same requests came in each step, and the same was read of them.
+pub fn the_same_arrives_in_stories_alike()
+    ensures { AlikeAreSame }
 {}

@@ -20,12 +20,14 @@ impl<T> Model for Boxed<T> {
 }
 
 impl<T> Boxed<T> {
+    /// The value, lent.
     pub fn get(&self) -> &T
         ensures { result.now ≡ self.now }
     {
         &self.inner
     }
 
+    /// The value, moved off the heap, whose memory is given back.
     pub fn into_inner(self) -> T
         ensures { result ≡ self }
     {
@@ -35,6 +37,7 @@ impl<T> Boxed<T> {
 }
 
 impl<T: Drop> Boxed<T> {
+    /// Puts the value on the heap.
     pub fn new(alloc: Global, value: T) -> Result<Boxed<T>, OutOfMemory>
         ensures { IfOk result (λ it. it ≡ value) }
     {

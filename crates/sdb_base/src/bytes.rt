@@ -41,6 +41,7 @@ impl Bytes {
         })
     }
 
+    /// A copy of the bytes, with just the room that they need.
     pub fn from_slice(alloc: Global, s: &[u8]) -> Result<Bytes, OutOfMemory>
         ensures { IfOk result (λ made. made.bytes ≡ s.now) }
     {
@@ -49,6 +50,7 @@ impl Bytes {
         })
     }
 
+    /// The bytes, without the room behind them.
     pub fn as_slice(&self) -> &[u8]
         ensures { result.now ≡ self.now.bytes }
     {
@@ -62,6 +64,7 @@ impl Bytes {
         self.inner
     }
 
+    /// The number of bytes, without the room behind them.
     pub fn len(&self) -> usize
         ensures { result ≡ length self.now.bytes }
     {

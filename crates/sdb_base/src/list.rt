@@ -41,12 +41,14 @@ impl<T> List<T> {
         }
     }
 
+    /// The number of members.
     pub fn len(&self) -> usize
         ensures { result ≡ length self.now }
     {
         self.inner.len()
     }
 
+    /// Whether there is no member.
     pub fn is_empty(&self) -> bool
         ensures { IsTrue result ↔ (self.now ≡ []) }
     {
@@ -61,6 +63,7 @@ impl<T> List<T> {
         &self.inner[place]
     }
 
+    /// The members in their order.
     pub fn as_slice(&self) -> &[T]
         ensures { result.now ≡ self.now }
     {

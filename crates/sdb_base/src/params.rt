@@ -44,6 +44,7 @@ impl Params {
         Params { pairs }
     }
 
+    /// The number of parameters.
     pub fn len(&self) -> usize
         ensures count { result ≡ length self.now }
         ensures distinct { HasDistinctNames self.now }

@@ -43,6 +43,7 @@ impl Drop for Text {
 }
 
 impl Text {
+    /// A copy of the string.
     pub fn from_str(alloc: Global, s: &str) -> Result<Text, OutOfMemory>
         ensures { IfOk result (λ text. text ≡ s.now) }
     {
@@ -64,12 +65,18 @@ impl Text {
         Text { inner }
     }
 
+    /// A copy of the text. A short one takes no memory.
     pub fn copy(&self, alloc: Global) -> Result<Text, OutOfMemory>
         ensures { IfOk result (λ text. text ≡ self.now) }
     {
-        Text::from_str(alloc, self.as_str())
+        let inner = match &self.inner {
+            Stored::Here(short) => Stored::Here(*short),
+            Stored::OnHeap(long) => Stored::OnHeap(String::from_str(alloc, long.as_str())?),
+        };
+        Ok(Text { inner })
     }
 
+    /// The text as a string.
     pub fn as_str(&self) -> &str
         ensures value { result.now ≡ self.now }
         ensures utf8 { IsUtf8 self.now }

@@ -7,7 +7,7 @@ ghost use Rattle.sdb_base.specs.Causes.{Rose};
 ghost use Rattle.sdb_disk.specs.Disk.{Elapses, LeavesOnly};
 ghost use Rattle.sdb_pairs.specs.Accounts.{DomainEntries};
 ghost use Rattle.sdb_record.specs.Stands.{IsFirstBad, StandsFor};
-ghost use Rattle.sdb_store.specs.Opened.{StandsAsBefore};
+ghost use Rattle.sdb_store.specs.Opened.{IsBadFile, StandsAsBefore};
 ghost use Rattle.sdb_check.specs.Checks.{IsAnswer, IsRefusal, AppendsFront, Lists, ListsFront};
 ghost use Rattle.sdb_listing.specs.Listing.{listing_of};
 
@@ -31,6 +31,7 @@ pub fn check<D: Disk, K: Sink>(alloc: Global, output: &mut K, disk: &mut D) -> S
     ensures write_fault { result ≡ Status.WriteFault → Rose (K.faults output.old) (K.faults output.new) }
     ensures disk_fault { result ≡ Status.DiskFault → Rose (D.state disk.old).faults (D.state disk.new).faults }
     ensures not_a_store { (k : ℕ) → result ≡ Status.NotAStore k → (k < 4) × (IsTrue (D.state disk.old).told → IsFirstBad k (D.state disk.old).seen) }
+    ensures bad { (k : ℕ) → result ≡ Status.NotAStore k → IsBadFile k (D.state disk.new) }
     ensures sure { IsTrue (D.state disk.old).told → (accounts : DomainEntries) (number : ℕ) → StandsFor accounts number (D.state disk.old).seen
         → (k : ℕ) → result ≡ Status.NotAStore k → ⊥ }
     ensures answer { IsAnswer result }

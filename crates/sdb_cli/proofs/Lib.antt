@@ -1,4 +1,5 @@
 pub mod AskedLemmas
+pub mod BenchLemmas
 pub mod LinesLemmas
 pub mod LongLemmas
 pub mod RunsLemmas

@@ -2,6 +2,7 @@
 ghost use Rattle.std.specs.Prelude.{◌≡◌, ◌^◌, ◌<◌, ◌≤◌, ◌⊎◌, ◌↔◌, ℕ, List, length, IsTrue, Some};
 ghost use Rattle.std.specs.Io.KnownBytes.{Consumes, IsAtEnd, Keeps};
 ghost use Rattle.sdb_base.specs.Causes.{Rose};
+ghost use Rattle.sdb_bench.specs.Measures.{Reports, ReportsFront};
 ghost use Rattle.sdb_check.specs.Checks.{IsAnswer, IsRefusal, Lists, ListsFront};
 ghost use Rattle.sdb_cli.specs.Commands.{asks, IsOther};
 ghost use Rattle.sdb_cli.specs.Plain.{Plain, PlainWhole};
@@ -12,11 +13,12 @@ ghost use Rattle.sdb_record.specs.Stands.{IsFirstBad};
 ghost use Rattle.sdb_replay.specs.Complete.{IsWell};
 ghost use Rattle.sdb_replay.specs.Endings.{EachStands, Ends};
 ghost use Rattle.sdb_serve.specs.Hosting.{Attends};
-ghost use Rattle.sdb_store.specs.Opened.{StandsAsBefore};
+ghost use Rattle.sdb_store.specs.Opened.{IsBadFile, StandsAsBefore};
 ghost use Rattle.sdb_words.specs.declared.command.Command.TheVariants as command;
 
 use crate::bare::bare;
 use sdb_base::Words;
+use sdb_bench::bench;
 use sdb_check::check;
 use sdb_disk::Disk;
 use sdb_io::{Clock, Links, Sink, Source};
@@ -45,6 +47,9 @@ const MOST_INPUT: u64 = 1_099_511_627_776;
 ///
 /// `check` opens the store and writes what it holds: the line `sequence N`, and a line of account, domain, number of
 /// items and number of pairs for each domain.
+///
+/// `bench` carries out the workload of a size over a store in memory, and then writes how many requests it has, how many
+/// answers came, how many items and pairs are there at the end, and the SHA-256 of what a replay of it would write.
 pub fn run<S: Source, T: Source, K: Sink, L: Links, D: Disk, C: Clock>(
     alloc: Global,
     words: &Words,
@@ -55,9 +60,9 @@ pub fn run<S: Source, T: Source, K: Sink, L: Links, D: Disk, C: Clock>(
     disk: &mut D,
     clock: &mut C,
 ) -> Status
-    // Words that are no command touch nothing; with memory they are Usage, and no others are.
+    // Words that are no command touch nothing and are Usage, and no others are.
     ensures usage { result ≡ Status.Usage → IsOther words.now }
-    ensures others { IsOther words.now → (result ≡ Status.Usage) ⊎ (result ≡ Status.OutOfMemory) }
+    ensures others { IsOther words.now → result ≡ Status.Usage }
     ensures untouched { IsOther words.now → (keys.new ≡ keys.old) × (input.new ≡ input.old) × (output.new ≡ output.old)
         × (links.new ≡ links.old) × (disk.new ≡ disk.old) × (clock.new ≡ clock.old) }
 
@@ -72,6 +77,8 @@ pub fn run<S: Source, T: Source, K: Sink, L: Links, D: Disk, C: Clock>(
         → (Rose (S.faults keys.old) (S.faults keys.new) → ⊥) → (Rose (T.faults input.old) (T.faults input.new) → ⊥)
         → (Rose (K.faults output.old) (K.faults output.new) → ⊥) → (Rose (D.state disk.old).faults (D.state disk.new).faults → ⊥)
         → (result ≡ Status.Done) ⊎ (result ≡ Status.OutOfMemory) }
+    // A file that is told to be bad is the first bad one of those that are left, whatever the command.
+    ensures bad_file { (file : ℕ) → result ≡ Status.NotAStore file → IsBadFile file (D.state disk.new) }
     // Files that stood for accounts are never refused.
     ensures sure { IsTrue (D.state disk.old).told → (accounts : DomainEntries) (number : ℕ) → EachStands (D.state disk.old) accounts number
         → (file : ℕ) → result ≡ Status.NotAStore file → ⊥ }
@@ -93,6 +100,14 @@ pub fn run<S: Source, T: Source, K: Sink, L: Links, D: Disk, C: Clock>(
     ensures check_images { asks words.now ≡ Some command.Check → IsTrue (D.state disk.old).told → LeavesOnly (D.state disk.old) (D.state disk.new) (StandsAsBefore (D.state disk.old)) }
     ensures check_answer { asks words.now ≡ Some command.Check → IsAnswer result }
     ensures check_alone { asks words.now ≡ Some command.Check → (keys.new ≡ keys.old) × (input.new ≡ input.old) }
+
+    // `bench`: the five lines of the whole workload are written, or where the output fails a front of them, and where memory
+    // is lacking nothing.
+    ensures bench_done { (size : ℕ) → asks words.now ≡ Some (command.Bench size) → result ≡ Status.Done → Reports size (K.written output.old) (K.written output.new) }
+    ensures bench_front { (size : ℕ) → asks words.now ≡ Some (command.Bench size) → result ≡ Status.WriteFault → ReportsFront size (K.written output.old) (K.written output.new) }
+    ensures bench_nothing { (size : ℕ) → asks words.now ≡ Some (command.Bench size) → result ≡ Status.OutOfMemory → Keeps (K.written output.old) (K.written output.new) }
+    ensures bench_answer { (size : ℕ) → asks words.now ≡ Some (command.Bench size) → (result ≡ Status.Done) ⊎ (result ≡ Status.WriteFault) ⊎ (result ≡ Status.OutOfMemory) }
+    ensures bench_alone { (size : ℕ) → asks words.now ≡ Some (command.Bench size) → (keys.new ≡ keys.old) × (input.new ≡ input.old) × (disk.new ≡ disk.old) }
 
     // `bare`: with Done all lines of the input are answered.
     ensures done { asks words.now ≡ Some command.Bare → result ≡ Status.Done → ((given : List ℕ) × Consumes (T.left input.old) (T.left input.new) given × IsAtEnd (T.left input.new)
@@ -122,7 +137,8 @@ pub fn run<S: Source, T: Source, K: Sink, L: Links, D: Disk, C: Clock>(
             serve(alloc, keys, links, disk, clock, port, turns)
         }
         Ok(Some(Command::Check)) => check(alloc, output, disk),
-        Ok(_) => Status::Usage,
+        Ok(Some(Command::Bench(size))) => bench(alloc, size, output),
+        Ok(None) => Status::Usage,
         Err(_) => Status::OutOfMemory,
     }
 }

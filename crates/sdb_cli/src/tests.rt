@@ -434,15 +434,41 @@ fn other_words_are_usage(rt: HostRuntime) -> Result<(), Fail> {
     for texts in [
         [].as_slice(),
         &["--help"],
+        &["help"],
         &["bare", "x"],
+        &["check", "x"],
         &["serve"],
         &["serve", "0", "5"],
         &["serve", "080", "5"],
+        &["serve", "65536", "1"],
+        &["serve", "1", "4294967296"],
+        &["bench"],
+        &["bench", "0"],
+        &["bench", "01"],
+        &["bench", "101"],
+        &["bench", "1", "1"],
     ] {
         let (status, output) = ran(rt.alloc(), texts, BOOKS, [false, false])?;
         assert_eq!(rt; status.number(), 1);
         assert_eq!(rt; output.written(), b"".as_slice());
     }
+    Ok(())
+}
+
+// Computed by `tools/compare/bench.py`.
+const BENCH_LINES: &[u8] =
+    b"requests 104\nanswers 104\nitems 61\npairs 63\nsent 5511396813904453fe81d6ada8737e3976aadaa4148d33017f9cc1959df643ab\n";
+
+#[test]
+fn a_bench_comes_to_the_same_each_time(rt: HostRuntime) -> Result<(), Fail> {
+    for _ in 0..2 {
+        let (status, output) = ran(rt.alloc(), &["bench", "1"], BOOKS, [true, false])?;
+        assert_eq!(rt; status, Status::Done);
+        assert_eq!(rt; output.written(), BENCH_LINES);
+    }
+    let (status, output) = ran(rt.alloc(), &["bench", "1"], BOOKS, [false, true])?;
+    assert_eq!(rt; status, Status::WriteFault);
+    assert_eq!(rt; output.written(), b"".as_slice());
     Ok(())
 }
 

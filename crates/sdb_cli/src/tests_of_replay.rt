@@ -112,7 +112,9 @@ fn runs_end_by_their_causes(rt: HostRuntime) -> Result<(), Fail> {
         (KEYS, many, Failing::Input, Status::ReadFault, b""),
         (KEYS, many, Failing::Keys, Status::ReadFault, b""),
         (KEYS, many, Failing::Disk(0), Status::DiskFault, b""),
+        // Bad keys are told before the store is opened, and before the script is read.
         (bad, many, Failing::Disk(0), Status::BadKeys(2), b""),
+        (bad, many, Failing::Input, Status::BadKeys(2), b""),
     ] {
         let mut disk = new_disk(alloc, failing)?;
         let (status, output) = replayed(alloc, keys, script, failing, &mut disk)?;
@@ -122,19 +124,74 @@ fn runs_end_by_their_causes(rt: HostRuntime) -> Result<(), Fail> {
     Ok(())
 }
 
-#[test]
-fn files_of_no_store_are_refused(rt: HostRuntime) -> Result<(), Fail> {
-    let alloc = rt.alloc();
+// The status of a replay over files: two checkpoints and two journals.
+fn over_files(alloc: Global, files: [&[u8]; 4]) -> Result<Status, Fail> {
+    let [
+        first_checkpoint,
+        second_checkpoint,
+        first_journal,
+        second_journal,
+    ] = files;
     let files = [
-        Bytes::from_slice(alloc, b"\x01xxxxxxxxxxxxxxxxxxxxxxxxxxxxxxxx")?,
-        Bytes::new(alloc),
-        Bytes::new(alloc),
-        Bytes::new(alloc),
+        Bytes::from_slice(alloc, first_checkpoint)?,
+        Bytes::from_slice(alloc, second_checkpoint)?,
+        Bytes::from_slice(alloc, first_journal)?,
+        Bytes::from_slice(alloc, second_journal)?,
     ];
     let mut disk = MemoryDisk::with_files(alloc, files);
-    let (status, output) = replayed(alloc, KEYS, b"O 1\n", Failing::Nothing, &mut disk)?;
-    assert_eq!(rt; status, Status::NotAStore(0));
-    assert_eq!(rt; output.written(), b"".as_slice());
+    let (status, _) = replayed(alloc, KEYS, b"O 1\n", Failing::Nothing, &mut disk)?;
+    Ok(status)
+}
+
+// A journal of generation 0 without records.
+const EMPTY: &[u8] = b"\x01SDBJRNL1\0\0\0\0\0\0\0\0\0\0\0\0\0\0\0\0\0";
+
+// One byte short of a header.
+const SHORT: &[u8] = b"\x01SDBJRNL1\0\0\0\0\0\0\0\0\0\0\0\0\0\0\0\0";
+
+// Another magic.
+const ANOTHER: &[u8] = b"\x01SDBJRNL9\0\0\0\0\0\0\0\0\0\0\0\0\0\0\0\0\0";
+
+// A journal of the records 1 and 3, CreateDomain `books` and CreateDomain `maps` of account 1.
+const SKIPPING: &[u8] =
+    b"\x01SDBJRNL1\0\0\0\0\0\0\0\0\0\0\0\0\0\0\0\0\x01\0\0\0\x0c\0\0\0\0\0\0\0\x01\0\0\0\x01\0\x01\x05books\x01\0\0\0\x0b\0\0\0\0\0\0\0\x03\0\0\0\x01\0\x01\x04maps\0";
+
+// The same with the records 1 and 2.
+const FOLLOWING: &[u8] =
+    b"\x01SDBJRNL1\0\0\0\0\0\0\0\0\0\0\0\0\0\0\0\0\x01\0\0\0\x0c\0\0\0\0\0\0\0\x01\0\0\0\x01\0\x01\x05books\x01\0\0\0\x0b\0\0\0\0\0\0\0\x02\0\0\0\x01\0\x01\x04maps\0";
+
+// A record that says it has 32 bytes, and ends after 12.
+const PAST_THE_END: &[u8] =
+    b"\x01SDBJRNL1\0\0\0\0\0\0\0\0\0\0\0\0\0\0\0\0\x01\0\0\0\x20\0\0\0\0\0\0\0\x01\0\0\0\x01\0\x01\x05books\0";
+
+// A checkpoint of generation 1 and sequence 1, CreateDomain `books` of account 1.
+const CHECKPOINT: &[u8] =
+    b"\x01SDBSNAP1\0\0\0\0\0\0\0\x01\0\0\0\0\0\0\0\x01\0\0\0\0\0\0\0\x08\0\x01\x05books";
+
+const FOREIGN: &[u8] = b"\x01xxxxxxxxxxxxxxxxxxxxxxxxxxxxxxxx";
+
+// The first bad file is told, in the order of their numbers. No checkpoint and no second journal is ever written, so where one
+// of them is open it is bad.
+#[test]
+fn files_are_opened_or_the_first_bad_one_is_told(rt: HostRuntime) -> Result<(), Fail> {
+    let alloc = rt.alloc();
+    let none: &[u8] = b"";
+    for (files, wanted) in [
+        ([none, none, EMPTY, none], Status::Done),
+        ([none, none, SHORT, none], Status::Done),
+        ([none, none, FOLLOWING, none], Status::Done),
+        ([none, none, ANOTHER, none], Status::NotAStore(2)),
+        ([none, none, SKIPPING, none], Status::NotAStore(2)),
+        ([none, none, PAST_THE_END, none], Status::NotAStore(2)),
+        ([FOREIGN, none, none, none], Status::NotAStore(0)),
+        ([CHECKPOINT, none, none, none], Status::NotAStore(0)),
+        ([none, CHECKPOINT, none, none], Status::NotAStore(1)),
+        ([none, CHECKPOINT, ANOTHER, EMPTY], Status::NotAStore(1)),
+        ([none, none, ANOTHER, EMPTY], Status::NotAStore(2)),
+        ([none, none, EMPTY, EMPTY], Status::NotAStore(3)),
+    ] {
+        assert_eq!(rt; over_files(alloc, files)?, wanted);
+    }
     Ok(())
 }
 

@@ -199,8 +199,9 @@ starts keys table line store s accounts n table_is line_is sound pending keeps o
 
 -- ---- an answer taken off
 
-took : (k : View) (out : Sent) (s : State) (o : Opening) (story : List Step) → StandsFor (record k { line = with_out out k.line }) s o story → StandsFor k s o story
-took k out s o story h = record {
+-- what is released doesn't matter to what a core stands for
+pub stands_with : (k : View) (outs : List Sent) (s : State) (o : Opening) (story : List Step) → StandsFor k s o story → StandsFor (record k { line = record k.line { out = outs } }) s o story
+stands_with k outs s o story h = record {
   keys = h.keys;
   holds = record {
     agrees = record {
@@ -222,4 +223,4 @@ took k out s o story h = record {
 
 -- a core stands for the story still, once an answer was taken off
 pub takes_out : (old new : View) (out : Sent) (s : State) (o : Opening) (story : List Step) → old ≡ record new { line = with_out out new.line } → StandsFor old s o story → StandsFor new s o story
-takes_out old new out s o story is h = took new out s o story (subst (λ (k : View). StandsFor k s o story) is h)
+takes_out old new out s o story is h = stands_with (record new { line = with_out out new.line }) new.line.out s o story (subst (λ (k : View). StandsFor k s o story) is h)

@@ -1,10 +1,13 @@
 -- Why a step answers what it answers: by event, and whatever the disk tells.
-use Rattle.std.specs.Prelude.{◌≡◌, ℕ, ◌+◌, ◌-◌, ◌<◌, ◌≤◌, ◌^◌, ◌⊎◌, Bool, true, false, min, length}
+use Rattle.std.specs.Prelude.{◌≡◌, ℕ, ◌+◌, ◌-◌, ◌<◌, ◌≤◌, ◌^◌, ◌⊎◌, Bool, true, false, IsTrue, min, length}
 use Rattle.sdb_arrivals.specs.Story.{Answer, Done, Full, Disk, NotAStore, OutOfMemory, Event, Opened, Piece, Ended, Commit, Work}
 use Rattle.sdb_arrivals.specs.Tables.{Connections}
 use Rattle.sdb_base.specs.Causes.{Rose}
-use Rattle.sdb_disk.specs.Disk.{State}
+use Rattle.sdb_disk.specs.Disk.{Files, State}
+use Rattle.sdb_pairs.specs.Accounts.{DomainEntries}
+use Rattle.sdb_record.specs.Stands.{IsFirstBad, StandsFor}
 use Rattle.sdb_store.specs.Kept.{Contents}
+use Rattle.sdb_store.specs.Opened.{IsBadFile}
 use Rattle.sdb_core.specs.Kept.{View}
 
 -- what an event needs: numbers of connections rise, and fewer than 2^48 bytes come in all
@@ -78,3 +81,34 @@ HasCause (Piece conn moment bytes) a old new before now = PieceCause a old new b
 HasCause (Ended conn) a old new before now = EndedCause a old new before now
 HasCause Commit a old new before now = CommitCause a old.store new.store before now
 HasCause Work a old new before now = WorkCause a old.store new.store before now
+
+-- ---- the files
+
+-- files that stand for some accounts
+abbrev pub StandForSome : Files → Type 0
+StandForSome c = (accounts : DomainEntries) × (number : ℕ) × StandsFor accounts number c
+
+-- a commit opens the store again: it wasn't sound, or what was held couldn't be committed
+abbrev pub OpensAgain : Answer → Contents → Type 0
+OpensAgain a old = (old.sound ≡ false) ⊎ (a ≡ Done → ⊥)
+
+-- What a commit finds in the files, where it opens the store again and the disk tells them. The store is sound after it only
+-- on files that stand for accounts. NotAStore comes exactly where a file is bad, with the first one, unless the disk failed or
+-- memory ended; and then the files are left as the opening read them. Those of a store that wasn't sound are read as they stood before.
+pub record FindsFiles (a : Answer) (old new : Contents) (before now : State) : Type 0 where
+  pub bad : (k : ℕ) → a ≡ NotAStore k → (new.sound ≡ false) × IsBadFile k now
+  pub stand : OpensAgain a old → new.sound ≡ true → IsTrue now.told → StandForSome now.seen
+  pub exactly : OpensAgain a old → IsTrue now.told → (k : ℕ) → k < 4 → IsFirstBad k now.seen
+      → (a ≡ NotAStore k) ⊎ ((new.sound ≡ false) × ((a ≡ Disk) ⊎ (a ≡ OutOfMemory)))
+  pub untouched : old.sound ≡ false → (k : ℕ) → a ≡ NotAStore k → now.seen ≡ before.seen
+  pub stood : old.sound ≡ false → a ≡ Done → IsTrue before.told → StandForSome before.seen
+  pub exactly_before : old.sound ≡ false → IsTrue before.told → (k : ℕ) → k < 4 → IsFirstBad k before.seen
+      → (a ≡ NotAStore k) ⊎ ((a ≡ Disk) ⊎ (a ≡ OutOfMemory))
+
+-- the same by event: only a commit opens the store again
+abbrev pub Finds : Event → Answer → View → View → State → State → Type 0
+Finds (Opened conn) a old new before now = Unit {0}
+Finds (Piece conn moment bytes) a old new before now = Unit {0}
+Finds (Ended conn) a old new before now = Unit {0}
+Finds Commit a old new before now = FindsFiles a old.store new.store before now
+Finds Work a old new before now = Unit {0}

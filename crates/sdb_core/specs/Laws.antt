@@ -1,7 +1,10 @@
 -- The laws of ledgers and stories.
-use Rattle.std.specs.Prelude.{◌≡◌, ◌≤◌, ◌<◌, ◌++◌, ◌⊎◌, Bool, true, false, min, List, [], length, map}
+use Rattle.std.specs.Prelude.{◌≡◌, ℕ, ◌≤◌, ◌<◌, ◌++◌, ◌⊎◌, Bool, true, false, min, List, [], length, map}
+use Rattle.sdb_arrivals.specs.Connects.{Connects}
+use Rattle.sdb_arrivals.specs.Framing.{is_open}
 use Rattle.sdb_arrivals.specs.Story.{Commit, Done, Step, came_in}
-use Rattle.sdb_core.specs.Ledgers.{Given, Ledger, Opening, Plain, changes_in, filled, gives, in_hand, ledger, moves, released, with_group}
+use Rattle.sdb_arrivals.specs.Tables.{Connections, open_in}
+use Rattle.sdb_core.specs.Ledgers.{Given, Ledger, Opening, Plain, changes_in, count_released, filled, gives, in_hand, ledger, moves, released, with_group}
 use Rattle.sdb_core.specs.Told.{AreSteps, Marked}
 
 -- all that arrived is released, is held or waits, in order
@@ -33,3 +36,8 @@ pub record MadeDurable (o : Opening) (s : Step) (l : Ledger) : Type 0 where
 abbrev pub PlainIsDurable : Type 0
 PlainIsDurable = (o : Opening) (s : Step) (l : Ledger) → (l.sound ≡ false → changes_in l.held ≡ []) → Marked Plain (gives s.event s.answer l)
     → MadeDurable o s l ⊎ ((s.event ≡ Commit) × (changes_in l.held ≡ []))
+
+-- a connection is open in a table that stands for a story exactly where it is open in the story
+abbrev pub OpenAsTold : Type 0
+OpenAsTold = (o : Opening) (t : Connections) (story : List Step) → Connects (count_released o) t story
+    → (conn : ℕ) → open_in conn t.entries ≡ is_open conn story

@@ -7,7 +7,8 @@ ghost use Rattle.sdb_disk.specs.Disk.{LeavesOnly, Elapses};
 ghost use Rattle.sdb_arrivals.specs.Story.{Commit, answer_of};
 ghost use Rattle.sdb_journal.specs.Looks.{OnRefusal, HasOpenCause};
 ghost use Rattle.sdb_store.specs.Kept.{Ready};
-ghost use Rattle.sdb_core.specs.Causes.{CommitCause};
+ghost use Rattle.sdb_store.specs.Opened.{IsBadFile};
+ghost use Rattle.sdb_core.specs.Causes.{CommitCause, FindsFiles, StandForSome};
 ghost use Rattle.sdb_core.specs.Inside.{HasRoom, IsSure, MakesAll, Reopens, StaysLost, hand_of};
 ghost use Rattle.sdb_core.specs.Kept.{Holds};
 ghost use Rattle.sdb_core.specs.Ledgers.{Ledger, Opening};
@@ -33,6 +34,7 @@ pub(crate) fn commit<D: Disk, L>(
     requires room { HasRoom line.old store.old }
     ensures makes { MakesAll Commit (answer_of result) [] (D.state disk.old).told line.old store.old (D.state disk.old) line.new store.new (D.state disk.new) items.old items.new }
     ensures cause { CommitCause (answer_of result) store.old store.new (D.state disk.old) (D.state disk.new) }
+    ensures files { FindsFiles (answer_of result) store.old store.new (D.state disk.old) (D.state disk.new) }
     ensures sure { IsSure (D.state disk.old).told (answer_of result) line.old store.old (D.state disk.old) }
     ensures ready { Ready store.new (D.state disk.new) }
     ensures room { HasRoom line.new store.new }
@@ -61,6 +63,7 @@ fn commit_group<D: Disk, L>(
     requires room { HasRoom line.old store.old }
     ensures makes { MakesAll Commit (answer_of result) [] (D.state disk.old).told line.old store.old (D.state disk.old) line.new store.new (D.state disk.new) items.old items.new }
     ensures cause { CommitCause (answer_of result) store.old store.new (D.state disk.old) (D.state disk.new) }
+    ensures files { FindsFiles (answer_of result) store.old store.new (D.state disk.old) (D.state disk.new) }
     ensures sure { IsSure (D.state disk.old).told (answer_of result) line.old store.old (D.state disk.old) }
     ensures ready { Ready store.new (D.state disk.new) }
     ensures room { HasRoom line.new store.new }
@@ -100,6 +103,7 @@ fn commit_none<D: Disk, L>(
     requires room { HasRoom line.old store.old }
     ensures makes { MakesAll Commit (answer_of result) [] (D.state disk.old).told line.old store.old (D.state disk.old) line.new store.new (D.state disk.new) items.old items.new }
     ensures cause { CommitCause (answer_of result) store.old store.new (D.state disk.old) (D.state disk.new) }
+    ensures files { FindsFiles (answer_of result) store.old store.new (D.state disk.old) (D.state disk.new) }
     ensures sure { IsSure (D.state disk.old).told (answer_of result) line.old store.old (D.state disk.old) }
     ensures ready { Ready store.new (D.state disk.new) }
     ensures room { HasRoom line.new store.new }
@@ -139,6 +143,10 @@ fn reopen<D: Disk, L>(
     ensures during { IsTrue (D.state disk.old).told → (o : Opening) (l : Ledger) → Holds line.old store.old (D.state disk.old) o l
         → LeavesOnly (D.state disk.old) (D.state disk.new) (Stands o l) }
     ensures refused { OnRefusal result (λ k. k < 4) }
+    ensures bad { OnRefusal result (λ k. IsBadFile k (D.state disk.new)) }
+    ensures unwritten { OnRefusal result (λ k. (D.state disk.new).seen ≡ (D.state disk.old).seen) }
+    ensures stood { OnOk result (IsTrue (D.state disk.old).told → StandForSome (D.state disk.old).seen) }
+    ensures still { OnOk result (IsTrue (D.state disk.new).told → StandForSome (D.state disk.new).seen) }
     ensures sure { IsTrue (D.state disk.old).told → (o : Opening) (l : Ledger) → Holds line.old store.old (D.state disk.old) o l
         → OnRefusal result (λ k. ⊥) }
     ensures ready { Ready store.new (D.state disk.new) }

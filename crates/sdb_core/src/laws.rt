@@ -1,6 +1,6 @@
 //! The laws of ledgers and stories.
 
-ghost use Rattle.sdb_core.specs.Laws.{AllInOrder, AreFew, LesserIsHeld, NoneWaits, PlainIsDurable};
+ghost use Rattle.sdb_core.specs.Laws.{AllInOrder, AreFew, LesserIsHeld, NoneWaits, OpenAsTold, PlainIsDurable};
 
 /// What is released, what is held and what waits, one after the other, is all that arrived, in its order: so no
 /// arrival is lost, and none is answered twice or out of turn.
@@ -23,4 +23,10 @@ pub fn none_waits_while_there_is_room()
 /// are durable after it, or none of them changed anything.
 pub fn plain_answers_are_durable()
     ensures { PlainIsDurable }
+{}
+
+/// `is_open` says what the story says: a core that stands for a story has a connection open exactly where it was opened
+/// in the story and no event ended it.
+pub fn open_as_the_story_tells()
+    ensures { OpenAsTold }
 {}

@@ -9,8 +9,8 @@ ghost use Rattle.sdb_journal.specs.Looks.{OnRefusal, HasOpenCause};
 ghost use Rattle.sdb_pairs.specs.Accounts.{DomainEntries};
 ghost use Rattle.sdb_record.specs.Stands.{IsFirstBad, StandsFor as FilesStandFor};
 ghost use Rattle.sdb_store.specs.Kept.{Ready};
-ghost use Rattle.sdb_store.specs.Opened.{StandsAsBefore};
-ghost use Rattle.sdb_core.specs.Causes.{CanCome, HasCause, is_of_connection};
+ghost use Rattle.sdb_store.specs.Opened.{IsBadFile, StandsAsBefore};
+ghost use Rattle.sdb_core.specs.Causes.{CanCome, Finds, HasCause, is_of_connection};
 ghost use Rattle.sdb_core.specs.Inside.{IsSure};
 ghost use Rattle.sdb_core.specs.Ledgers.{Opening};
 ghost use Rattle.sdb_core.specs.Told.{Begins, StandsFor, Steps as StepsTo, Told};
@@ -65,6 +65,7 @@ impl Core {
         ensures ready { IfOk result (λ core. Ready core.store (D.state disk.new)) }
         ensures images { IsTrue (D.state disk.old).told → LeavesOnly (D.state disk.old) (D.state disk.new) (StandsAsBefore (D.state disk.old)) }
         ensures refused { OnRefusal result (λ k. (k < 4) × (IsTrue (D.state disk.old).told → IsFirstBad k (D.state disk.old).seen)) }
+        ensures bad { OnRefusal result (λ k. IsBadFile k (D.state disk.new)) }
         ensures sure { IsTrue (D.state disk.old).told → (accounts : DomainEntries) (number : ℕ) → FilesStandFor accounts number (D.state disk.old).seen → OnRefusal result (λ k. ⊥) }
         ensures time { Elapses (D.state disk.old) (D.state disk.new) }
         ensures told { (D.state disk.new).told ≡ (D.state disk.old).told }
@@ -89,8 +90,9 @@ impl Core {
     ///
     /// # Errors
     ///
-    /// `Full` of an opening alone, where 64 connections are live. `Disk` and `NotAStore` of a commit, and `Disk` of
-    /// background work: the disk failed, or the files stand for no accounts. `OutOfMemory`: a piece then hasn't come.
+    /// `Full` of an opening alone, where 64 connections are live. `Disk` of a commit and of background work: the disk
+    /// failed. `NotAStore` of a commit that opens the store again, exactly where the files stand for no accounts, with the
+    /// first bad file. `OutOfMemory`: a piece then hasn't come.
     pub fn step<D: Disk, L>(
         &mut self,
         event: Event<'_>,
@@ -106,6 +108,7 @@ impl Core {
             → (k : ℕ) → answer_of result ≢ NotAStore k }
         ensures disk { is_of_connection (event_of event.entry) ≡ true → disk.new ≡ disk.old }
         ensures cause { HasCause (event_of event.entry) (answer_of result) self.old self.new (D.state disk.old) (D.state disk.new) }
+        ensures files { Finds (event_of event.entry) (answer_of result) self.old self.new (D.state disk.old) (D.state disk.new) }
         ensures later { items.old ≤ items.new }
         ensures ready { Ready self.new.store (D.state disk.new) }
         ensures time { Elapses (D.state disk.old) (D.state disk.new) }
@@ -127,6 +130,7 @@ impl Core {
         ensures sure { IsSure (D.state disk.old).told (answer_of result) self.old.line self.old.store (D.state disk.old) }
         ensures disk { is_of_connection (event_of event.entry) ≡ true → disk.new ≡ disk.old }
         ensures cause { HasCause (event_of event.entry) (answer_of result) self.old self.new (D.state disk.old) (D.state disk.new) }
+        ensures files { Finds (event_of event.entry) (answer_of result) self.old self.new (D.state disk.old) (D.state disk.new) }
         ensures later { items.old ≤ items.new }
         ensures ready { Ready self.new.store (D.state disk.new) }
         ensures time { Elapses (D.state disk.old) (D.state disk.new) }

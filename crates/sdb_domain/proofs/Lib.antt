@@ -6,7 +6,9 @@ pub mod MetadataLemmas
 pub mod NameLemmas
 pub mod NumberLemmas
 pub mod OpenLemmas
+pub mod PartSums
 pub mod RangeLemmas
+pub mod RowLemmas
 pub mod SeenLemmas
 pub mod SlotLemmas
 pub mod WalkLemmas

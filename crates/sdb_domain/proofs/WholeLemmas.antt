@@ -1,10 +1,10 @@
 -- What is kept of a domain stays right when a row is written, and when what is hidden is swept.
-use Rattle.std.proofs.Common.{◌≡◌, ℕ, ◌+◌, ◌-◌, ◌≤◌, false, cond, List, [], ◌∷◌, Option, Some, None, refl, sym, ap, ◌∙◌, subst, arith, All}
+use Rattle.std.proofs.Common.{◌≡◌, ℕ, ◌+◌, ◌-◌, ◌≤◌, Bool, true, false, not, ◌&&◌, Decides, cond, List, [], ◌∷◌, Option, Some, None, refl, sym, ap, ◌∙◌, subst, arith, All, true≢false, is_eq}
 use Rattle.std.specs.List.{sum_by}
 use Rattle.std.specs.List.Sorted.{IsStrictlySortedBy}
 use Rattle.std.specs.Map.{remove_entry, values_of}
 use Rattle.std.specs.BTreeMap.{is_at, insert_entry}
-use Rattle.std.proofs.lemmas.Cmp.{nat_list_cmp_total}
+use Rattle.std.proofs.lemmas.Cmp.{nat_list_cmp_total, tied_itself}
 use Rattle.std.proofs.lemmas.List.Elements.{All-nil, All-cons, All-head, All-tail}
 use Rattle.std.proofs.lemmas.Map.Lookups.{exact_bytes}
 use Rattle.sdb_base.specs.Texts.{text_cmp}
@@ -20,11 +20,11 @@ use Rattle.sdb_domain.specs.declared.names.Names.{Names}
 use Rattle.sdb_domain.specs.declared.names.NameWas.{NameWas}
 use Rattle.sdb_domain.specs.declared.sums.Sums.{Sums}
 use Rattle.sdb_domain.specs.Held.{Kept, items_kept, IsWhole, IsClean}
-use Rattle.sdb_domain.specs.Keyed.{back, unwound, seen, with_shown, IsSwept, unchanged, removed}
+use Rattle.sdb_domain.specs.Keyed.{unwound, seen, with_shown, unchanged, removed}
 use Rattle.sdb_domain.specs.Names.{count_of, presence, Recounts, IsTallied, ChangesLogged, is_logged, name_undone, SweepsNames}
-use Rattle.sdb_domain.specs.Sums.{row_sums, exchanged}
-use Rattle.sdb_domain.specs.Undo.{row_undone, ChangesOnly, Sweeps}
-use Rattle.sdb_domain.proofs.EntryViews.{sum_inserted, weight_within, back_inserted, sum_removed, adds}
+use Rattle.sdb_domain.specs.Sums.{row_sums, has_pairs, exchanged}
+use Rattle.sdb_domain.specs.Undo.{row_back, row_undone, ChangesOnly, SweepsRow, Sweeps}
+use Rattle.sdb_domain.proofs.EntryViews.{sum_inserted, weight_within, sum_removed, adds}
 use Rattle.sdb_domain.proofs.ItemSums.{pairs_kept}
 use Rattle.sdb_domain.proofs.NameLemmas.{swept_hidden, rising_swept, seen_swept}
 use Rattle.sdb_domain.proofs.SeenLemmas.{seen_of, found-seen, rising-seen, seen-put}
@@ -37,6 +37,14 @@ counted_within kept name whole q =
     let within = weight_within nat_list_cmp_total exact_bytes (λ row. presence q row.1) [] kept.rows name refl in
     let was = whole.counts q in
     omega arith
+
+-- whether pairs are left tells whether the row is hidden
+none_left : (pairs : List Pair) (row : Option (List Pair)) → row ≡ Some pairs → Decides (not (has_pairs pairs)) (row ≡ Some [])
+none_left [] row e = (λ h. e, λ h. refl)
+none_left (p ∷ ps) row e = (λ h. absurd (true≢false (sym h)), λ h. absurd (other (sym e ∙ h)))
+  where
+    other : Some (p ∷ ps) ≡ Some [] → ⊥
+    other h = cc
 
 module _ (kept : Kept) (name : List ℕ) (new : List Pair) (rows : ItemEntries) (names : Names) (sums : Sums) (whole : IsWhole kept)
     (rows_are : rows ≡ insert_entry text_cmp kept.rows name new) (rises : IsStrictlySortedBy pair_cmp new)
@@ -78,52 +86,76 @@ module _ (kept : Kept) (name : List ℕ) (new : List Pair) (rows : ItemEntries) 
       ∙ seen-put item_with kept.rows name new whole.rows_rise
       ∙ ap (λ ps. placed text_cmp (items_kept kept) name (item_with ps)) (is ∙ ap (λ o. merged o ops) (sym (pairs_kept kept name whole.rows_rise)))
 
-  pub edit_back : (was : RowWas) → was.name ≡ name → was.item ≡ found text_cmp kept.rows name → was.sums ≡ kept.sums → unwound name_undone names was.names.items ≡ kept.names
+  pub edit_back : (was : RowWas) → row_back rows was.name was.exchange ≡ kept.rows → was.sums ≡ kept.sums → unwound name_undone names was.names.items ≡ kept.names
       → row_undone (record { rows = rows; names = names; sums = sums }) was ≡ kept
-  edit_back was name_is item_is same_sums back_names =
-      let r : back rows was.name was.item ≡ kept.rows = (λ j. back (rows_are j) (name_is j) was.item) ∙ back_inserted kept.rows name whole.rows_rise new was.item item_is in
-      λ i. record { rows = r i; names = back_names i; sums = same_sums i }
+  edit_back was back_rows same_sums back_names = λ i. record { rows = back_rows i; names = back_names i; sums = same_sums i }
 
-  pub edit_only : (was : RowWas) → was.name ≡ name → ChangesLogged kept.names.counts names.counts was.names.items → ChangesOnly kept (record { rows = rows; names = names; sums = sums }) was
-  edit_only was name_is logged = record {
+  row_is : (q : List ℕ) → q ≡ name → found text_cmp rows q ≡ Some new
+  row_is q is =
+      (λ i. found text_cmp (rows_are i) (is i))
+      ∙ found-insert nat_list_cmp_total kept.rows name name new
+      ∙ ap (λ r. cond (is_eq r) (Some new) (found text_cmp kept.rows name)) (tied_itself nat_list_cmp_total name)
+
+  pub edit_only : (was : RowWas) (left : Bool) → was.name ≡ name → was.emptied ≡ not left → left ≡ has_pairs new → ChangesLogged kept.names.counts names.counts was.names.items → ChangesOnly kept (record { rows = rows; names = names; sums = sums }) was
+  edit_only was left name_is noted left_is logged = record {
+    emptied = subst (λ b. Decides b (found text_cmp rows was.name ≡ Some [])) (sym (noted ∙ ap not left_is)) (none_left new (found text_cmp rows was.name) (row_is was.name name_is));
     rows = λ q off. ap (λ l. found text_cmp l q) rows_are ∙ found-insert nat_list_cmp_total kept.rows name q new ∙ ap (λ b. cond b (Some new) (found text_cmp kept.rows q)) (ap (is_at (text_cmp q)) (sym name_is) ∙ off);
     names = logged;
   }
 
 -- ---- what is hidden, taken out
 
-module _ (kept : Kept) (name : List ℕ) (rows : ItemEntries) (names : Names) (log : List NameWas) (whole : IsWhole kept) (swept : IsSwept [] kept.rows rows name) (sweeps : SweepsNames kept.names names log) where
-  unmoved : (f : List ℕ × List Pair → ℕ) → f (name, []) ≡ 0 → IsSwept [] kept.rows rows name → sum_by f kept.rows ≡ sum_by f rows
-  unmoved f z (unchanged e lacks) = ap (sum_by f) (sym e)
-  unmoved f z (removed h e) =
+neither : (b : Bool) → (b && false) ≡ false
+neither true = refl
+neither false = refl
+
+module _ (kept : Kept) (name : List ℕ) (rows : ItemEntries) (names : Names) (log : List NameWas) (whole : IsWhole kept) (emptied : Bool) (swept : SweepsRow emptied kept.rows rows name) (sweeps : SweepsNames kept.names names log) where
+  unmoved : (f : List ℕ × List Pair → ℕ) → f (name, []) ≡ 0 → (b : Bool) → SweepsRow b kept.rows rows name → sum_by f kept.rows ≡ sum_by f rows
+  unmoved f z false e = ap (sum_by f) (sym e)
+  unmoved f z true (unchanged e lacks) = ap (sum_by f) (sym e)
+  unmoved f z true (removed h e) =
       let removed = sum_removed nat_list_cmp_total exact_bytes f kept.rows name in
       let zero : adds nat_list_cmp_total exact_bytes f name (found text_cmp kept.rows name) ≡ 0 = ap (adds nat_list_cmp_total exact_bytes f name) h ∙ z in
       let all : sum_by f rows ≡ sum_by f (remove_entry (is_at (text_cmp name)) kept.rows) = ap (sum_by f) e in
       omega arith
 
-  pairs_left : IsSwept [] kept.rows rows name → All (IsStrictlySortedBy pair_cmp) (values_of rows)
-  pairs_left (unchanged e lacks) = subst (λ l. All (IsStrictlySortedBy pair_cmp) (values_of l)) (sym e) whole.pairs_rise
-  pairs_left (removed h e) = subst (λ l. All (IsStrictlySortedBy pair_cmp) (values_of l)) (sym e) (values-placed nat_list_cmp_total (IsStrictlySortedBy pair_cmp) kept.rows name None whole.pairs_rise tt)
+  pairs_left : (b : Bool) → SweepsRow b kept.rows rows name → All (IsStrictlySortedBy pair_cmp) (values_of rows)
+  pairs_left false e = subst (λ l. All (IsStrictlySortedBy pair_cmp) (values_of l)) (sym e) whole.pairs_rise
+  pairs_left true (unchanged e lacks) = subst (λ l. All (IsStrictlySortedBy pair_cmp) (values_of l)) (sym e) whole.pairs_rise
+  pairs_left true (removed h e) = subst (λ l. All (IsStrictlySortedBy pair_cmp) (values_of l)) (sym e) (values-placed nat_list_cmp_total (IsStrictlySortedBy pair_cmp) kept.rows name None whole.pairs_rise tt)
+
+  rows_left : (b : Bool) → SweepsRow b kept.rows rows name → IsRising text_cmp rows
+  rows_left false e = subst (IsRising text_cmp) (sym e) whole.rows_rise
+  rows_left true s = rising_swept [] kept.rows rows name whole.rows_rise s
 
   pub whole_swept : IsWhole (record { rows = rows; names = names; sums = kept.sums })
   whole_swept = record {
-    rows_rise = rising_swept [] kept.rows rows name whole.rows_rise swept;
-    pairs_rise = pairs_left swept;
-    counts = λ q. sweeps.same q ∙ whole.counts q ∙ unmoved (λ row. presence q row.1) refl swept;
+    rows_rise = rows_left emptied swept;
+    pairs_rise = pairs_left emptied swept;
+    counts = λ q. sweeps.same q ∙ whole.counts q ∙ unmoved (λ row. presence q row.1) refl emptied swept;
     tallied = sweeps.tallied whole.tallied;
-    items = whole.items ∙ unmoved (λ row. (row_sums row).items) refl swept;
-    item_bytes = whole.item_bytes ∙ unmoved (λ row. (row_sums row).item_bytes) refl swept;
-    pairs = whole.pairs ∙ unmoved (λ row. (row_sums row).pairs) refl swept;
-    value_bytes = whole.value_bytes ∙ unmoved (λ row. (row_sums row).value_bytes) refl swept;
-    weight = whole.weight ∙ unmoved (λ row. (row_sums row).weight) refl swept;
+    items = whole.items ∙ unmoved (λ row. (row_sums row).items) refl emptied swept;
+    item_bytes = whole.item_bytes ∙ unmoved (λ row. (row_sums row).item_bytes) refl emptied swept;
+    pairs = whole.pairs ∙ unmoved (λ row. (row_sums row).pairs) refl emptied swept;
+    value_bytes = whole.value_bytes ∙ unmoved (λ row. (row_sums row).value_bytes) refl emptied swept;
+    weight = whole.weight ∙ unmoved (λ row. (row_sums row).weight) refl emptied swept;
   }
 
   pub items_swept : seen item_with rows ≡ items_kept kept
-  items_swept = seen_swept item_with [] kept.rows rows name refl swept
+  items_swept = same emptied swept
+    where
+      same : (b : Bool) → SweepsRow b kept.rows rows name → seen item_with rows ≡ items_kept kept
+      same false e = ap (seen item_with) e
+      same true s = seen_swept item_with [] kept.rows rows name refl s
 
-  pub row_swept : (was : RowWas) → was.name ≡ name → was.names.items ≡ log → Sweeps kept (record { rows = rows; names = names; sums = kept.sums }) was
-  row_swept was name_is log_is = record {
-    rows = λ q h. let r = swept_hidden [] kept.rows rows name whole.rows_rise swept q h in (r.0, ap (is_at (text_cmp q)) name_is ∙ r.1);
+  -- a row that is hidden was hidden, and isn't one that was emptied
+  hidden_left : (b : Bool) → SweepsRow b kept.rows rows name → (q : List ℕ) → found text_cmp rows q ≡ Some [] → (found text_cmp kept.rows q ≡ Some []) × ((is_at (text_cmp q) name && b) ≡ false)
+  hidden_left false e q h = (ap (λ l. found text_cmp l q) (sym e) ∙ h, neither (is_at (text_cmp q) name))
+  hidden_left true s q h = let r = swept_hidden [] kept.rows rows name whole.rows_rise s q h in (r.0, ap (λ b. b && true) r.1)
+
+  pub row_swept : (was : RowWas) → was.name ≡ name → was.emptied ≡ emptied → was.names.items ≡ log → Sweeps kept (record { rows = rows; names = names; sums = kept.sums }) was
+  row_swept was name_is emptied_is log_is = record {
+    rows = λ q h. let r = hidden_left emptied swept q h in (r.0, (λ i. is_at (text_cmp q) (name_is i) && emptied_is i) ∙ r.1);
     names = subst (λ l. (q : List ℕ) → found text_cmp names.counts q ≡ Some 0 → (found text_cmp kept.names.counts q ≡ Some 0) × (is_logged q l ≡ false)) (sym log_is) sweeps.swept;
   }
 

@@ -1,5 +1,5 @@
 // One domain, as callers see it.
-ghost use Rattle.std.specs.Prelude.{◌≡◌, ◌+◌, option_map, length, List, ℕ};
+ghost use Rattle.std.specs.Prelude.{◌≡◌, ◌+◌, ◌≤◌, IfOk, OnOk, map, option_map, length, List, ℕ};
 ghost use Rattle.sdb_pairs.specs.declared.pair.Pair.{Pair};
 ghost use Rattle.std.specs.Option.{option_copied};
 ghost use Rattle.sdb_base.specs.Texts.{text_cmp};
@@ -8,12 +8,15 @@ ghost use Rattle.sdb_pairs.specs.Accounts.{AreItems};
 ghost use Rattle.sdb_domain.specs.Held.{items_kept, IsClean};
 ghost use Rattle.sdb_domain.specs.LookUps.{least_after, held_text};
 ghost use Rattle.sdb_domain.specs.Metadata.{Describes};
+ghost use Rattle.sdb_domain.specs.Rows.{seen_row};
 ghost use Rattle.sdb_domain.specs.Weights.{domain_weight, pair_count};
 
 use crate::held::Held;
 use crate::metadata::Metadata;
-use sdb_base::{Steps, Text};
+use crate::row::Row;
+use sdb_base::{OutOfMemory, Steps, Text};
 use sdb_pairs::Item;
+use std::alloc::Global;
 use std::fmt;
 use std::marker::Model;
 
@@ -34,7 +37,7 @@ impl Model for Domain {
     ghost invariant = { λ it. IsInOrder it.held };
 }
 
-// The items are seen by `item` and `scan` alone.
+// The items are seen by `item`, `scan` and `scan_all` alone.
 impl fmt::Debug for Domain {
     fn fmt<W: fmt::Write>(&self, f: &mut fmt::Formatter<W>) -> fmt::Result {
         f.debug_struct("Domain").finish_non_exhaustive()
@@ -77,6 +80,26 @@ impl Domain {
     {
         items.tick();
         self.held.scan(after)
+    }
+
+    /// All items in their order, by one walk. Counts one step for each; where memory is wanting it may have met fewer.
+    pub fn scan_all<L>(
+        &self,
+        alloc: Global,
+        items: &mut Steps<L>,
+    ) -> Result<Vec<Row<'_>>, OutOfMemory>
+        ensures all { IfOk result (λ rows. map seen_row rows.items ≡ self.now) }
+        ensures ticks { OnOk result (items.new ≡ items.old + length self.now) }
+        ensures later { items.old ≤ items.new }
+        ensures most { items.new ≤ items.old + length self.now }
+        ensures in_order { AreItems self.now }
+    {
+        let mut rows = Vec::with_capacity(alloc, self.held.item_count() as usize)?;
+        for (name, item) in self.held.items() {
+            items.tick();
+            rows.push(Row { name, item })?;
+        }
+        Ok(rows)
     }
 
     /// The domain's own copy of the name, where it has such an item. It tells nothing of the item's pairs.

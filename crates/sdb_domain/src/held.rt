@@ -5,18 +5,19 @@ ghost use Rattle.std.specs.Option.{option_copied};
 ghost use Rattle.sdb_domain.specs.LookUps.{least_after, held_text};
 ghost use Rattle.sdb_domain.specs.Weights.{domain_weight, pair_count};
 ghost use Rattle.sdb_base.specs.Texts.{text_cmp};
-ghost use Rattle.sdb_base.specs.Entries.{found};
+ghost use Rattle.sdb_base.specs.Entries.{found, IsRising};
 ghost use Rattle.sdb_pairs.specs.Changes.{edited};
-ghost use Rattle.sdb_domain.specs.Sums.{row_sums, exchanged};
-ghost use Rattle.sdb_domain.specs.Keyed.{IsSwept};
+ghost use Rattle.sdb_domain.specs.Sums.{has_left, sums_after};
+ghost use Rattle.sdb_domain.specs.Undo.{RowExchanges, HasRoom, row_back, SweepsRow};
 
 use crate::keyed::Keyed;
 use crate::metadata::Metadata;
 use crate::names::{NameWas, Names};
 use crate::sums::Sums;
 use sdb_base::{OutOfMemory, Text};
-use sdb_pairs::{Item, Ops, Pair, merge};
+use sdb_pairs::{Exchange, Item, Ops, Pair, merge, touched};
 use std::alloc::Global;
+use std::collections::btree_map::Range;
 use std::marker::Model;
 
 // A domain's rows with their counts and sums. A row without pairs stands for no item; one is left where an
@@ -38,11 +39,13 @@ impl Model for Held {
     ghost invariant = { λ it. IsWhole (record { rows = it.rows; names = it.names; sums = it.sums }) };
 }
 
-// What stood in a domain before an edit of a row.
+// What stood in a domain before an edit of a row, by what takes the edit back: a row that the edit made goes.
+// And whether the edit left the row without pairs.
 #[derive(Drop)]
 pub(crate) struct RowWas {
     name: Text,
-    item: Option<Item>,
+    exchange: Option<Exchange>,
+    emptied: bool,
     names: Vec<NameWas>,
     sums: Sums,
 }
@@ -50,7 +53,7 @@ pub(crate) struct RowWas {
 impl Held {
     ghost use Rattle.sdb_domain.specs.Metadata.{Describes};
     ghost use Rattle.sdb_domain.specs.Held.{IsWhole, IsClean, nothing_kept, items_kept};
-    ghost use Rattle.sdb_domain.specs.Undo.{row_undone, ChangesOnly, Sweeps};
+    ghost use Rattle.sdb_domain.specs.Undo.{row_undone, FitsRow, ChangesOnly, Sweeps};
 
     pub(crate) fn new(alloc: Global) -> Held
         ensures { result ≡ nothing_kept }
@@ -73,23 +76,25 @@ impl Held {
         ensures back { IfOk result (λ was. row_undone self.new was ≡ self.old) }
         ensures only { IfOk result (λ was. ChangesOnly self.old self.new was) }
         ensures err { OnErr result (self.new ≡ self.old) }
+        ensures room { IfOk result (λ was. FitsRow self.new was) }
         ensures was_whole { IsWhole self.old }
     {
         let none = Item::new(alloc);
         let old = self.rows.get(name).unwrap_or(&none);
-        let item = merge(alloc, old, ops)?;
-        let old_pairs = old.pairs();
-        let new_pairs = item.pairs();
-        let sums = sums_after(&self.sums, name, old_pairs, new_pairs)?;
+        let out = touched(alloc, old, ops)?;
+        let put = merge(alloc, &out, ops)?;
+        let sums = sums_after(&self.sums, name, old.pairs(), out.pairs(), put.pairs())?;
+        let left = has_left(old.pairs(), out.pairs(), put.pairs());
         let kept = name.copy(alloc)?;
-        let names = self.names.recount(alloc, old_pairs, new_pairs)?;
-        match self.rows.set(alloc, name, item) {
-            Ok(was) => {
+        let names = self.names.recount(alloc, out.pairs(), put.pairs())?;
+        match exchange(&mut self.rows, alloc, name, out, put) {
+            Ok(exchange) => {
                 let before = self.sums;
                 self.sums = sums;
                 Ok(RowWas {
                     name: kept,
-                    item: was,
+                    exchange,
+                    emptied: !left,
                     names,
                     sums: before,
                 })
@@ -153,6 +158,14 @@ impl Held {
         self.rows.first_after(after)
     }
 
+    // All items, in order.
+    pub(crate) fn items(&self) -> Range<'_, Text, Item>
+        requires { IsClean self.now }
+        ensures { result ≡ items_kept self.now }
+    {
+        self.rows.range_after(None)
+    }
+
     pub(crate) fn held_name(&self, name: &Text) -> Option<&Text>
         requires { IsClean self.now }
         ensures { option_map (λ t. t.now) result ≡ held_text (items_kept self.now) name.now }
@@ -161,50 +174,108 @@ impl Held {
         Some(held)
     }
 
-    // Takes out what an edit left hidden: a row without pairs, and names that no item has.
+    // Takes out what an edit left hidden: a row that it emptied, where no later one has filled it, and names
+    // that no item has.
     pub(crate) fn sweep(&mut self, was: &RowWas)
         ensures same { items_kept self.new ≡ items_kept self.old }
         ensures swept { Sweeps self.old self.new was.now }
     {
-        sweep_row(&mut self.rows, &was.name);
+        sweep_row(&mut self.rows, &was.name, was.emptied);
         self.names.sweep(was.names.as_slice());
     }
 
     // Takes an edit back.
     pub(crate) fn undo(&mut self, was: RowWas)
-        requires { IsWhole (row_undone self.old was) }
+        requires whole { IsWhole (row_undone self.old was) }
+        requires room { FitsRow self.old was }
         ensures { self.new ≡ row_undone self.old was }
     {
         let RowWas {
             name,
-            item,
+            exchange,
+            emptied: _,
             names,
             sums,
         } = was;
-        self.rows.back(&name, item);
+        take_back(&mut self.rows, &name, exchange);
         self.names.unwind(names);
         self.sums = sums;
     }
 }
 
-// The sums once the new pairs stand in the place of the old ones.
-fn sums_after(sums: &Sums, name: &Text, old: &[Pair], new: &[Pair]) -> Result<Sums, OutOfMemory>
-    ensures { IfOk result (λ after. after ≡ exchanged sums.now (row_sums (name.now, old.now)) (row_sums (name.now, new.now))) }
+// The sums once some pairs of an item are taken out and others put in.
+fn sums_after(
+    sums: &Sums,
+    name: &Text,
+    item: &[Pair],
+    out: &[Pair],
+    put: &[Pair],
+) -> Result<Sums, OutOfMemory>
+    ensures { IfOk result (λ after. after ≡ sums_after sums.now name.now item.now out.now put.now) }
 {
-    let (Some(old), Some(new)) = (Sums::of_row(name, old), Sums::of_row(name, new)) else {
+    let (Some(out), Some(put)) = (
+        Sums::of_part(name, !item.is_empty(), out),
+        Sums::of_part(name, has_left(item, out, put), put),
+    ) else {
         return Err(OutOfMemory);
     };
-    match sums.exchange(&old, &new) {
+    match sums.exchange(&out, &put) {
         Some(after) => Ok(after),
         None => Err(OutOfMemory),
     }
 }
 
-// Takes the row out, where it has no pairs.
-fn sweep_row(rows: &mut Keyed<Item>, name: &Text)
-    ensures { IsSwept [] rows.old rows.new name.now }
+// Whether an item has pairs once some are taken out and others put in.
+fn has_left(item: &[Pair], out: &[Pair], put: &[Pair]) -> bool
+    ensures { result ≡ has_left item.now out.now put.now }
 {
-    if is_hidden(rows, name) {
+    item.len() != out.len() || !put.is_empty()
+}
+
+// Takes pairs out of a row and puts others in, or makes the row. Gives what takes that back, where the row was there.
+fn exchange(
+    rows: &mut Keyed<Item>,
+    alloc: Global,
+    name: &Text,
+    out: Item,
+    put: Item,
+) -> Result<Option<Exchange>, OutOfMemory>
+    ensures ok { IfOk result (λ exchange. RowExchanges rows.old rows.new name.now out put exchange) }
+    ensures err { OnErr result (rows.new ≡ rows.old) }
+    ensures rising { IsRising text_cmp rows.old }
+{
+    match rows.get_mut(name) {
+        Some(item) => match item.exchange(alloc, out, put) {
+            Ok(exchange) => Ok(Some(exchange)),
+            Err(error) => Err(error),
+        },
+        None => {
+            rows.insert(name.copy(alloc)?, put)?;
+            Ok(None)
+        }
+    }
+}
+
+// Takes an exchange back, or a row out that an edit made.
+fn take_back(rows: &mut Keyed<Item>, name: &Text, exchange: Option<Exchange>)
+    requires { HasRoom (found text_cmp rows.old name.now) exchange }
+    ensures { rows.new ≡ row_back rows.old name.now exchange }
+{
+    match exchange {
+        None => rows.remove(name),
+        Some(exchange) => {
+            if let Some(item) = rows.get_mut(name) {
+                item.take_back(exchange);
+            }
+        }
+    }
+}
+
+// Takes a row out that was emptied, where it is without pairs still. No other is looked up.
+fn sweep_row(rows: &mut Keyed<Item>, name: &Text, emptied: bool)
+    ensures { SweepsRow emptied rows.old rows.new name.now }
+{
+    if emptied && is_hidden(rows, name) {
         rows.remove(name);
     }
 }

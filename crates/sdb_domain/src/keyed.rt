@@ -121,7 +121,7 @@ impl<V: Drop> Keyed<V> {
         }
     }
 
-    fn insert(&mut self, key: Text, value: V) -> Result<Option<V>, OutOfMemory>
+    pub(crate) fn insert(&mut self, key: Text, value: V) -> Result<Option<V>, OutOfMemory>
         ensures old { IfOk result (λ old. old ≡ found text_cmp self.old key) }
         ensures ok { OnOk result (self.new ≡ insert_entry text_cmp self.old key value) }
         ensures err { OnErr result (self.new ≡ self.old) }

@@ -10,6 +10,7 @@ mod laws;
 mod metadata;
 mod names;
 mod opened;
+mod row;
 mod slot;
 mod sums;
 
@@ -17,6 +18,7 @@ pub use accounts::Accounts;
 pub use domain::Domain;
 pub use laws::walks_give_all;
 pub use metadata::Metadata;
+pub use row::Row;
 pub use sums::item_weight;
 
 #[cfg(test)]

@@ -11,8 +11,8 @@ use sdb_pairs::Ops;
 use std::alloc::Global;
 use std::marker::Model;
 
-// What is kept of a domain, with the edits since it was opened, the newest last. Every row and name that an
-// edit left hidden is named there, so closing sweeps what the edits name and nothing else.
+// What is kept of a domain, with the edits since it was opened, the newest last. Each tells whether it emptied
+// its row, and the names that it counted; so closing looks at those and at nothing else.
 #[derive(Drop)]
 pub(crate) struct Opened {
     held: Held,

@@ -3,7 +3,7 @@ ghost use Rattle.std.specs.Prelude.{◌≡◌, ◌+◌, ◌-◌, ◌<◌, ◌≤
 ghost use Rattle.std.specs.Option.{SomeIff};
 ghost use Rattle.std.specs.List.{sum_by};
 ghost use Rattle.sdb_domain.specs.Weights.{item_weight, pair_weight, value_bytes_of};
-ghost use Rattle.sdb_domain.specs.Sums.{row_sums, exchanged, SomeReachesLimit};
+ghost use Rattle.sdb_domain.specs.Sums.{part_sums, exchanged, SomeReachesLimit};
 
 use sdb_base::Text;
 use sdb_pairs::Pair;
@@ -59,21 +59,28 @@ impl Sums {
         }
     }
 
-    // What one row adds. `None` where its weight reaches 2^64.
-    pub(crate) fn of_row(name: &Text, pairs: &[Pair]) -> Option<Sums>
-        ensures value { IfSome result (λ sums. sums ≡ row_sums (name.now, pairs.now)) }
+    // What these pairs of a row add, and the row itself where it is counted with them. `None` where its weight
+    // reaches 2^64.
+    pub(crate) fn of_part(name: &Text, counted: bool, pairs: &[Pair]) -> Option<Sums>
+        ensures value { IfSome result (λ sums. sums ≡ part_sums name.now counted pairs.now) }
         ensures none { IfNone result (2 ^ 64 ≤ item_weight (name.now, pairs.now)) }
     {
-        if pairs.is_empty() {
-            return Some(Sums::none());
-        }
         let sums = sum_pairs(pairs)?;
+        let part = Sums {
+            items: 0,
+            item_bytes: 0,
+            pairs: pairs.len() as u64,
+            value_bytes: sums.value_bytes,
+            weight: sums.weight,
+        };
+        if !counted {
+            return Some(part);
+        }
         Some(Sums {
             items: 1,
             item_bytes: name.as_str().len() as u64,
-            pairs: pairs.len() as u64,
-            value_bytes: sums.value_bytes,
             weight: named_weight(name, sums.weight)?,
+            ..part
         })
     }
 

@@ -149,6 +149,8 @@ fn items_without_pairs_are_not_there(rt: HostRuntime) -> Result<(), Fail> {
     };
     assert_eq!(rt; second.as_str(), "c");
     assert!(rt; books.scan(Some(second), &mut items).is_none());
+    let all = books.scan_all(alloc, &mut items)?;
+    assert_eq!(rt; all.len(), 2);
     assert!(rt; books.item(&text(alloc, "b")?, &mut items).is_none());
     assert!(rt; books.held_name(&text(alloc, "b")?).is_none());
     assert!(rt;

@@ -11,9 +11,10 @@ use Rattle.sdb_parse.specs.declared.test.Test.{Test}
 use Rattle.sdb_parse.specs.Meaning.{Meaning, Question, Values, any_item, bound, counted, least_by, meaning, member_bound, or_bound, predicate_needs, sole}
 use Rattle.sdb_parse.proofs.MeaningLemmas.{meaning_Pred, meaning_Not, meaning_And, meaning_Or, meaning_Inter}
 use Rattle.sdb_pred.specs.Items.{values_in}
-use Rattle.sdb_page.specs.Seen.{count_in, seen_row}
+use Rattle.sdb_domain.specs.Rows.{seen_row}
+use Rattle.sdb_page.specs.Seen.{count_in}
 use Rattle.sdb_page.specs.Selects.{valued}
-use Rattle.sdb_page.specs.declared.rows.Row.{Row}
+use Rattle.sdb_domain.specs.declared.row.Row.{Row}
 
 pub least_members : (all : ℕ) (number : Meaning → ℕ) (es : List Expr) → least_by all number (map meaning es) ≡ least_by all (λ e. number (meaning e)) es
 least_members all number es = fold-map (λ least m. min least (number m)) meaning all es

@@ -1,5 +1,5 @@
 -- The pages of a Select by their positions join to its answer.
-use Rattle.std.proofs.Common.{◌≡◌, ℕ, ◌+◌, ◌<◌, ◌≤◌, Bool, true, false, cond, List, [], ◌∷◌, ◌++◌, length, filter, Option, Some, None, option_map, IfSome, refl, sym, ap, ◌∙◌, subst, arith}
+use Rattle.std.proofs.Common.{◌≡◌, ℕ, ◌<◌, ◌≤◌, Bool, true, false, List, [], ◌∷◌, ◌++◌, length, filter, Option, Some, None, option_map, IfSome, refl, sym, ap, ◌∙◌, subst, arith}
 use Rattle.std.specs.List.{AllByRecursion}
 use Rattle.sdb_pairs.specs.Accounts.{ItemEntries}
 use Rattle.sdb_pairs.specs.Lawful.{AreLawfulItems}
@@ -13,7 +13,7 @@ use Rattle.sdb_parse.specs.declared.select.SortKey.TheVariants as key
 use Rattle.sdb_token.specs.declared.position.Position.{Position}
 use Rattle.sdb_base.specs.Entries.{IsRising}
 use Rattle.sdb_page.specs.Pages.{Joins, only, more, next, page}
-use Rattle.sdb_page.specs.Selects.{PagesFrom, last_page, more_pages, answer_of, limit_of, next_of, page_of, passes, position_at, room_of, spot_at}
+use Rattle.sdb_page.specs.Selects.{PagesFrom, last_page, more_pages, answer_of, limit_of, passes, position_at, room_of, spot_at}
 use Rattle.sdb_page.specs.Spots.{Item, Row, Spot, answer, key_of, most_bytes, rank_of, row_bytes, spot_cmp, spot_of, value_key}
 use Rattle.sdb_page.proofs.FitLemmas.{answer-fits}
 use Rattle.sdb_page.proofs.PageLemmas.{pages-are, pages-join}

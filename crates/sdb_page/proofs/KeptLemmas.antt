@@ -7,12 +7,12 @@ use Rattle.std.proofs.lemmas.Cmp.{alike_right}
 use Rattle.std.proofs.lemmas.List.Folds.{fold-map}
 use Rattle.std.proofs.lemmas.List.Sums.{fold_more}
 use Rattle.sdb_base.proofs.Cases.{by_ordering}
-use Rattle.sdb_pairs.specs.Accounts.{ItemEntries}
 use Rattle.sdb_parse.specs.declared.select.Sort.{Sort}
 use Rattle.sdb_page.specs.Pages.{after}
-use Rattle.sdb_page.specs.Seen.{offered, offered_at, seen_row, stands_after}
-use Rattle.sdb_page.specs.Spots.{Item, Row, Spot, answer, spot_cmp, spot_of, with_item, with_row}
-use Rattle.sdb_page.specs.declared.rows.Row.{Row as Lent}
+use Rattle.sdb_domain.specs.Rows.{seen_row}
+use Rattle.sdb_page.specs.Seen.{offered_at, stands_after}
+use Rattle.sdb_page.specs.Spots.{Item, Row, Spot, rows_of, spot_cmp, spot_of, with_row}
+use Rattle.sdb_domain.specs.declared.row.Row.{Row as Lent}
 use Rattle.sdb_page.proofs.SpotLemmas.{spot_total}
 
 cond_put : {A : Type 0} (t : Bool) (x : A) (xs ys : List A) → x ∷ cond t xs ys ≡ cond t (x ∷ xs) (x ∷ ys)
@@ -34,7 +34,7 @@ module _ {P X : Type 0} {cmp : P → P → Ordering} (o : IsTotalOrder cmp) wher
   past start row = is_lt (cmp start row.0)
 
   -- behind a start stands an entry that was put where it stands there, and else what stood there before
-  behind_put : (rows : List (P × X)) (start place : P) (x : X) → filter (past start) (insert_entry cmp rows place x) ≡ cond (is_lt (cmp start place)) (insert_entry cmp (filter (past start) rows) place x) (filter (past start) rows)
+  pub behind_put : (rows : List (P × X)) (start place : P) (x : X) → filter (past start) (insert_entry cmp rows place x) ≡ cond (is_lt (cmp start place)) (insert_entry cmp (filter (past start) rows) place x) (filter (past start) rows)
   behind_put [] start place x = refl
   behind_put (e ∷ es) start place x =
       by_ordering (cmp place e.0)
@@ -83,36 +83,27 @@ put_one cmp (e ∷ es) place x =
 
 -- ---- the rows of a Select
 
-module _ (passes : Item → Bool) (sort : Option Sort) where
+module _ (sort : Option Sort) where
   -- what items bring to rows, of which none is left away
   abbrev pub placed_of : List Lent → List Row
-  placed_of rows = fold (λ placed row. with_item passes sort placed (seen_row row)) [] rows
+  placed_of rows = fold (λ placed row. with_row placed (spot_of sort (seen_row row)) (seen_row row)) [] rows
 
-  by_passing : (placed : List Row) (items : ItemEntries) → fold (with_item passes sort) placed items ≡ fold (λ placed item. with_row placed (spot_of sort item) item) placed (filter passes items)
-  by_passing placed [] = refl
-  by_passing placed (item ∷ items) =
-      let step : List Row → Item → List Row = λ placed item. with_row placed (spot_of sort item) item in
-      by_passing (with_item passes sort placed item) items
-      ∙ (elim (passes item) as (λ b. fold step (cond b (step placed item) placed) (filter passes items) ≡ fold step placed (cond b (item ∷ filter passes items) (filter passes items))) [ true ↦ refl | false ↦ refl ])
+  pub placed-rows : (rows : List Lent) → placed_of rows ≡ rows_of sort (map seen_row rows)
+  placed-rows rows = sym (fold-map (λ placed item. with_row placed (spot_of sort item) item) seen_row [] rows)
 
-  pub placed-answer : (rows : List Lent) → placed_of rows ≡ answer passes sort (map seen_row rows)
-  unfolding answer
-  placed-answer rows = sym (fold-map (with_item passes sort) seen_row [] rows) ∙ by_passing [] (map seen_row rows)
+  few_with : (placed : List Row) (spot : Option Spot) (item : Item) → length (with_row placed spot item) ≤ length placed + 1
+  few_with placed None item = omega arith
+  few_with placed (Some spot) item = put_one spot_cmp placed spot item
 
-  few_with : (placed : List Row) (spot : Option Spot) (item : Item) (b : Bool) → length (cond b (with_row placed spot item) placed) ≤ length placed + 1
-  few_with placed spot item false = omega arith
-  few_with placed None item true = omega arith
-  few_with placed (Some spot) item true = put_one spot_cmp placed spot item
-
-  few_placed : (placed : List Row) (rows : List Lent) → length (fold (λ placed row. with_item passes sort placed (seen_row row)) placed rows) ≤ length placed + length rows
+  few_placed : (placed : List Row) (rows : List Lent) → length (fold (λ placed row. with_row placed (spot_of sort (seen_row row)) (seen_row row)) placed rows) ≤ length placed + length rows
   few_placed placed [] = omega arith
   few_placed placed (row ∷ rows) =
-      let more : length (with_item passes sort placed (seen_row row)) ≤ length placed + 1 = few_with placed (spot_of sort (seen_row row)) (seen_row row) (passes (seen_row row)) in
-      omega (arith, few_placed (with_item passes sort placed (seen_row row)) rows, more)
+      let more : length (with_row placed (spot_of sort (seen_row row)) (seen_row row)) ≤ length placed + 1 = few_with placed (spot_of sort (seen_row row)) (seen_row row) in
+      omega (arith, few_placed (with_row placed (spot_of sort (seen_row row)) (seen_row row)) rows, more)
 
-  -- an answer has no more rows than there are items
-  pub few_answered : (rows : List Lent) → length (answer passes sort (map seen_row rows)) ≤ length rows
-  few_answered rows = omega (arith, few_placed [] rows, ap length (placed-answer rows))
+  -- no more rows are placed than there are items
+  pub few_rows : (rows : List Lent) → length (rows_of sort (map seen_row rows)) ≤ length rows
+  few_rows rows = omega (arith, few_placed [] rows, ap length (placed-rows rows))
 
   module _ (start : Option Spot) (most : ℕ) where
     -- what is kept of rows
@@ -129,24 +120,23 @@ module _ (passes : Item → Bool) (sort : Option Sort) where
           | false ↦ refl
         ])
 
-    kept_where : (placed : List Row) (spot : Option Spot) (item : Item) (b : Bool) → kept_of (cond b (with_row placed spot item) placed) ≡ cond b (offered_at start most (kept_of placed) spot item) (kept_of placed)
-    kept_where placed spot item false = refl
-    kept_where placed None item true = refl
-    kept_where placed (Some spot) item true = kept_after start placed spot item
+    kept_where : (placed : List Row) (spot : Option Spot) (item : Item) → kept_of (with_row placed spot item) ≡ offered_at start most (kept_of placed) spot item
+    kept_where placed None item = refl
+    kept_where placed (Some spot) item = kept_after start placed spot item
 
     -- an item more
-    pub kept_more : (rows : List Lent) (i : ℕ) (lent : Lent) (now next : List Row) → i < length rows → now ≡ kept_of (placed_of (take i rows)) → next ≡ offered passes sort start most now (seen_row (get_or rows i lent))
-        → next ≡ kept_of (placed_of (take (i + 1) rows))
+    pub kept_more : (rows : List Lent) (i : ℕ) (lent : Lent) (now next : List Row) → i < length rows → now ≡ kept_of (placed_of (take i rows))
+        → next ≡ offered_at start most now (spot_of sort (seen_row (get_or rows i lent))) (seen_row (get_or rows i lent)) → next ≡ kept_of (placed_of (take (i + 1) rows))
     kept_more rows i lent now next inside is more =
         let item = seen_row (get_or rows i lent) in
         more
-        ∙ ap (λ l. offered passes sort start most l item) is
-        ∙ sym (kept_where (placed_of (take i rows)) (spot_of sort item) item (passes item))
-        ∙ ap kept_of (sym (fold_more (λ placed row. with_item passes sort placed (seen_row row)) [] rows i lent inside))
+        ∙ ap (λ l. offered_at start most l (spot_of sort item) item) is
+        ∙ sym (kept_where (placed_of (take i rows)) (spot_of sort item) item)
+        ∙ ap kept_of (sym (fold_more (λ placed row. with_row placed (spot_of sort (seen_row row)) (seen_row row)) [] rows i lent inside))
 
     -- all items
-    pub kept_all : (rows : List Lent) (i : ℕ) (now : List Row) → length rows ≤ i → now ≡ kept_of (placed_of (take i rows)) → now ≡ kept_of (answer passes sort (map seen_row rows))
-    kept_all rows i now past is = is ∙ ap (λ l. kept_of (placed_of l)) (take_all i rows past) ∙ ap kept_of (placed-answer rows)
+    pub kept_all : (rows : List Lent) (i : ℕ) (now : List Row) → length rows ≤ i → now ≡ kept_of (placed_of (take i rows)) → now ≡ kept_of (rows_of sort (map seen_row rows))
+    kept_all rows i now past is = is ∙ ap (λ l. kept_of (placed_of l)) (take_all i rows past) ∙ ap kept_of (placed-rows rows)
 
     pub kept_few : (placed now : List Row) → now ≡ kept_of placed → length now ≤ most
     kept_few placed now is = omega (arith, ap length is, length-take most (after spot_cmp placed start))

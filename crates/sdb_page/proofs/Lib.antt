@@ -2,13 +2,15 @@ pub mod BoundLemmas
 pub mod CutLemmas
 pub mod FitLemmas
 pub mod FrontLemmas
+pub mod FullLemmas
 pub mod JoinedLemmas
 pub mod KeptLemmas
 pub mod PageLemmas
 pub mod PlaceOrder
 pub mod PositionLemmas
-pub mod ScanLemmas
 pub mod SeenLemmas
 pub mod SelectLemmas
 pub mod ShownLemmas
 pub mod SpotLemmas
+pub mod ToldLemmas
+pub mod TotalLemmas

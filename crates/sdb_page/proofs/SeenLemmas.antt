@@ -2,10 +2,11 @@
 use Rattle.std.proofs.Common.{◌≡◌, List, [], ◌∷◌, map, Ordering, Less, Equal, Greater, refl, ap, ◌∙◌}
 use Rattle.std.specs.BTreeMap.{insert_entry}
 use Rattle.std.specs.Ordering.{match_ordering}
-use Rattle.sdb_page.specs.Seen.{seen_entry, seen_place, seen_row}
+use Rattle.sdb_domain.specs.Rows.{seen_row}
+use Rattle.sdb_page.specs.Seen.{seen_entry, seen_place}
 use Rattle.sdb_page.specs.Spots.{Item, Spot, spot_cmp}
 use Rattle.sdb_page.specs.declared.place.Place.{Place}
-use Rattle.sdb_page.specs.declared.rows.Row.{Row}
+use Rattle.sdb_domain.specs.declared.row.Row.{Row}
 
 -- an order of places that is that of their spots
 pub record IsSeen (cmp : Place → Place → Ordering) : Type 0 where

@@ -1,5 +1,5 @@
 -- Places and rows of the code, as contracts see them.
-use Rattle.std.specs.Prelude.{ℕ, ◌-◌, Bool, true, false, List, length, take, count_by, Option, Some, None, option_map, bytes_eq, nat_le, nat_lt, if◌then◌else◌}
+use Rattle.std.specs.Prelude.{ℕ, ◌-◌, Bool, true, false, not, List, length, take, count_by, Option, Some, None, option_map, bytes_eq, nat_le, nat_lt, if◌then◌else◌}
 use Rattle.std.specs.List.{list_any}
 use Rattle.std.specs.BTreeMap.{insert_entry}
 use Rattle.std.specs.Ordering.{is_lt}
@@ -7,17 +7,20 @@ use Rattle.sdb_pairs.specs.declared.pair.Pair.{Pair}
 use Rattle.sdb_parse.specs.declared.select.Output.{Output}
 use Rattle.sdb_parse.specs.declared.select.Output.TheVariants.{All, Names, Count, Listed}
 use Rattle.sdb_parse.specs.declared.select.Select.{Select}
-use Rattle.sdb_parse.specs.declared.select.Sort.{Sort}
-use Rattle.sdb_parse.specs.Meaning.{Question}
+use Rattle.sdb_domain.specs.Rows.{seen_row}
+use Rattle.sdb_domain.specs.declared.row.Row.{Row}
+use Rattle.sdb_parse.specs.declared.expr.Operand.{Operand}
+use Rattle.sdb_parse.specs.declared.expr.Operand.TheVariants as operand
+use Rattle.sdb_parse.specs.declared.test.Test.{Test}
+use Rattle.sdb_parse.specs.Meaning.{Question, absence_of}
 use Rattle.sdb_pred.specs.Items.{values_in}
 use Rattle.sdb_token.specs.declared.position.Position.{Position}
 use Rattle.sdb_page.specs.Pages.{fitting, last_place}
 use Rattle.sdb_page.specs.Selects.{position_at, room_of}
-use Rattle.sdb_page.specs.Spots.{Item, most_bytes, Rank, Rising, Falling, Row as Placed, Spot, spot_cmp, spot_of}
+use Rattle.sdb_page.specs.Spots.{Item, most_bytes, Rank, Rising, Falling, Row as Placed, Spot, spot_cmp}
 use Rattle.sdb_page.specs.declared.place.Place.{Place}
 use Rattle.sdb_page.specs.declared.place.Rank.{Rank as CodeRank}
 use Rattle.sdb_page.specs.declared.place.Rank.TheVariants as code
-use Rattle.sdb_page.specs.declared.rows.Row.{Row}
 
 -- a rank
 abbrev pub seen_rank : CodeRank → Rank
@@ -27,10 +30,6 @@ seen_rank (code.Falling text) = Falling text.0.now
 -- a place
 abbrev pub seen_place : Place → Spot
 seen_place place = record { key = seen_rank place.key; name = place.name.now }
-
--- an item that is lent
-abbrev pub seen_row : Row → Item
-seen_row row = (row.name.now, row.item.now)
 
 -- an item under its place
 abbrev pub seen_entry : Place × Row → Spot × Item
@@ -52,9 +51,23 @@ abbrev pub offered_at : (start : Option Spot) (most : ℕ) → List Placed → O
 offered_at start most kept None item = kept
 offered_at start most kept (Some spot) item = if stands_after start spot then take most (insert_entry spot_cmp kept spot item) else kept
 
--- the same, where the item passes
-abbrev pub offered : (Item → Bool) → Option Sort → (start : Option Spot) (most : ℕ) → List Placed → Item → List Placed
-offered passes sort start most kept item = if passes item then offered_at start most kept (spot_of sort item) item else kept
+-- whether there is a spot, and it stands after the start
+abbrev pub spot_after : Option Spot → Option Spot → Bool
+spot_after start None = false
+spot_after start (Some spot) = stands_after start spot
+
+-- ---- the bound
+
+-- whether a test of an attribute asks for a value, or for any
+abbrev pub asks_for_some : Option Bool → Bool
+asks_for_some (Some absent) = not absent
+asks_for_some None = true
+
+-- whether a predicate is held wherever one value tells that it can be
+abbrev pub is_told : Operand → Test → Bool
+is_told (operand.Attr attr) t = asks_for_some (absence_of t)
+is_told (operand.Every attr) t = false
+is_told operand.ItemName t = false
 
 -- ---- what is shown
 

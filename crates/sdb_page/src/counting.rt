@@ -1,23 +1,55 @@
 // How many items can hold a condition, counted over the rows of a scan.
-ghost use Rattle.std.specs.Prelude.{◌≡◌, length, map, sum_by, min};
+ghost use Rattle.std.specs.Prelude.{◌≡◌, filter, length, map, sum_by, min};
 ghost use Rattle.std.specs.List.{list_any};
 ghost use Rattle.std.specs.Option.{option_copied};
-ghost use Rattle.sdb_parse.specs.Meaning.{any_item, asks, bound, has_value, least_by, meaning, member_bound, or_bound, predicate_needs, sole, together};
-ghost use Rattle.sdb_page.specs.Seen.{count_in, seen_row};
-ghost use Rattle.sdb_page.specs.Selects.{bound_of as bounded};
+ghost use Rattle.sdb_parse.specs.Meaning.{any_item, asks, bound, has_value, holds, least_by, meaning, member_bound, or_bound, predicate_needs, sole, together};
+ghost use Rattle.sdb_domain.specs.Rows.{seen_row};
+ghost use Rattle.sdb_pred.specs.Items.{values_in};
+ghost use Rattle.sdb_page.specs.Seen.{count_in, is_told};
+ghost use Rattle.sdb_page.specs.Selects.{bound_of as bounded, passes as held};
 
-use crate::rows::Row;
 use sdb_base::Text;
+use sdb_domain::Row;
 use sdb_parse::{Expr, Operand, Test};
 use sdb_pred::{can_hold, has_value_for_all, has_value_for_some, sole};
 
-// How many of the items can hold the condition, at most: all where there is none.
-pub(crate) fn bound_of(cond: &Option<Expr>, rows: &[Row<'_>]) -> u64
+// How many of the items can hold the condition, at most: all where there is none. `passing` are those that do hold it.
+pub(crate) fn bound_of(cond: &Option<Expr>, rows: &[Row<'_>], passing: &[Row<'_>]) -> u64
+    requires { map seen_row passing.now ≡ filter (held cond.now) (map seen_row rows.now) }
     ensures { result ≡ bounded cond.now (map seen_row rows.now) }
 {
     match cond {
         None => rows.len() as u64,
-        Some(cond) => bound(cond, rows),
+        Some(cond) => bound_where(cond, rows, passing),
+    }
+}
+
+// The same for a condition. An attribute's predicate that asks for some value is held wherever one value tells
+// that it can be, so its bound needs no second look at the items.
+#[tactic(auto, using(sdb_parse::proofs::MeaningLemmas::holds_laws))]
+fn bound_where(cond: &Expr, rows: &[Row<'_>], passing: &[Row<'_>]) -> u64
+    requires { map seen_row passing.now ≡ filter (λ item. holds cond.now item.0 (values_in item.1)) (map seen_row rows.now) }
+    ensures { result ≡ bound cond.now (count_in rows.now) }
+{
+    match cond {
+        Expr::Pred(operand, test) => {
+            if is_told(operand, test) {
+                passing.len() as u64
+            } else {
+                count_that_can_hold(operand, test, rows)
+            }
+        }
+        _ => bound(cond, rows),
+    }
+}
+
+// Whether a predicate is held wherever one value tells that it can be.
+fn is_told(operand: &Operand, test: &Test) -> bool
+    ensures { result ≡ is_told operand.now test.now }
+{
+    match operand {
+        Operand::Attr(_) => !matches!(test, Test::IsNull),
+        Operand::Every(_) | Operand::ItemName => false,
     }
 }
 

@@ -1,16 +1,15 @@
 // Items that may stand on a page, in the order of a Select.
-ghost use Rattle.std.specs.Prelude.{◌≡◌, ◌≤◌, ◌+◌, [], ◌∷◌, take, length, map, Some, IfOk, OnOk, MatchOption, option_map};
+ghost use Rattle.std.specs.Prelude.{◌≡◌, ◌≤◌, ◌+◌, [], ◌∷◌, true, take, length, map, Some, IfOk, OnOk, MatchOption, option_map};
 ghost use Rattle.std.specs.BTreeMap.{insert_entry};
 ghost use Rattle.sdb_page.specs.Pages.{after};
-ghost use Rattle.sdb_page.specs.Seen.{offered, offered_at, seen_entry, seen_place, seen_row};
-ghost use Rattle.sdb_page.specs.Selects.{answer_of, passes as held};
-ghost use Rattle.sdb_page.specs.Spots.{spot_cmp};
+ghost use Rattle.sdb_domain.specs.Rows.{seen_row};
+ghost use Rattle.sdb_page.specs.Seen.{offered_at, seen_entry, seen_place};
+ghost use Rattle.sdb_page.specs.Spots.{Item, rows_of, spot_cmp, spot_of};
 
 use crate::place::{Place, is_after, place_of};
-use crate::rows::Row;
 use sdb_base::OutOfMemory;
-use sdb_parse::{Expr, Select};
-use sdb_pred::holds;
+use sdb_domain::Row;
+use sdb_parse::Sort;
 use std::alloc::Global;
 use std::collections::BTreeMap;
 use std::marker::Model;
@@ -59,6 +58,19 @@ impl<'a> Kept<'a> {
         }
     }
 
+    // Whether so many are kept, and all stand before a place: then one that is put there goes at once.
+    fn is_full_before(&self, most: usize, place: Place<'_>) -> bool
+        ensures { result ≡ true → (item : Item) → take most (insert_entry spot_cmp self.now (seen_place place.entry) item) ≡ take most self.now }
+    {
+        if self.rows.len() < most {
+            return false;
+        }
+        match self.rows.last_key_value() {
+            Some((last, _row)) => last.cmp(&place).is_lt(),
+            None => false,
+        }
+    }
+
     // Takes out the first item with its place.
     pub(crate) fn take_first(&mut self) -> Option<(Place<'a>, Row<'a>)>
         ensures { MatchOption result (self.old ≡ []) (λ first. self.old ≡ seen_entry first ∷ self.new) }
@@ -67,38 +79,35 @@ impl<'a> Kept<'a> {
     }
 }
 
-// The items that hold the condition and stand after the start in the order, the first `most` of them.
+// The items that have a place after the start, in the order, the first `most` of them.
 pub(crate) fn keep<'a>(
     alloc: Global,
-    select: &Select,
+    sort: &Option<Sort>,
     start: Option<Place<'_>>,
     most: usize,
     rows: &[Row<'a>],
 ) -> Result<Kept<'a>, OutOfMemory>
-    ensures { IfOk result (λ kept. kept ≡ take most (after spot_cmp (answer_of select.now (map seen_row rows.now)) (option_map seen_place start.entry))) }
+    ensures { IfOk result (λ kept. kept ≡ take most (after spot_cmp (rows_of sort.now (map seen_row rows.now)) (option_map seen_place start.entry))) }
 {
     let mut kept = Kept::new(alloc);
     for row in rows {
-        offer(&mut kept, select, start, most, *row)?;
+        offer(&mut kept, sort, start, most, *row)?;
     }
     Ok(kept)
 }
 
-// Keeps an item that holds the condition and has a place after the start, and then the first `most` alone.
+// Keeps an item that has a place after the start, and then the first `most` alone.
 fn offer<'a>(
     kept: &mut Kept<'a>,
-    select: &Select,
+    sort: &Option<Sort>,
     start: Option<Place<'_>>,
     most: usize,
     row: Row<'a>,
 ) -> Result<(), OutOfMemory>
     requires { length kept.old ≤ most }
-    ensures { OnOk result (kept.new ≡ offered (held select.now.cond) select.now.sort (option_map seen_place start.entry) most kept.old (seen_row row.entry)) }
+    ensures { OnOk result (kept.new ≡ offered_at (option_map seen_place start.entry) most kept.old (spot_of sort.now (seen_row row.entry)) (seen_row row.entry)) }
 {
-    if !passes(&select.cond, row) {
-        return Ok(());
-    }
-    match place_of(&select.sort, row.name, row.item) {
+    match place_of(sort, row.name, row.item) {
         Some(place) => offer_at(kept, start, most, place, row),
         None => Ok(()),
     }
@@ -118,17 +127,10 @@ fn offer_at<'a>(
     if !is_after(start, place) {
         return Ok(());
     }
+    if kept.is_full_before(most, place) {
+        return Ok(());
+    }
     kept.put(place, row)?;
     kept.trim(most);
     Ok(())
-}
-
-// Whether an item holds the condition, where there is one.
-fn passes(cond: &Option<Expr>, row: Row<'_>) -> bool
-    ensures { result ≡ held cond.now (seen_row row.entry) }
-{
-    match cond {
-        None => true,
-        Some(cond) => holds(cond, row.name, row.item),
-    }
 }

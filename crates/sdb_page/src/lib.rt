@@ -6,9 +6,10 @@ mod kept;
 mod laws;
 mod page;
 mod paging;
+mod passing;
 mod place;
-mod rows;
 mod showing;
+mod total;
 
 pub use laws::{
     answers_rise, items_fit_on_a_page, pages_are_longest, pages_join, pages_of_a_select_join,

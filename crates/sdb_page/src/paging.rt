@@ -1,19 +1,24 @@
 // Pages of a Select over the items of a domain.
-ghost use Rattle.std.specs.Prelude.{◌≡◌, ◌+◌, ◌≤◌, [], map, take, length, IfOk, Option, option_map, None, if◌then◌else◌};
+ghost use Rattle.std.specs.Prelude.{◌≡◌, ◌+◌, ◌≤◌, [], true, map, take, length, IfOk, Option, option_map, Some, None, if◌then◌else◌};
 ghost use Rattle.std.specs.Option.{option_copied};
 ghost use Rattle.sdb_page.specs.Pages.{after, fitting, last_place};
-ghost use Rattle.sdb_page.specs.Seen.{front_of, left_after, seen_entry, seen_place, seen_row};
+ghost use Rattle.sdb_base.specs.Entries.{IsRising};
+ghost use Rattle.sdb_base.specs.Texts.{text_cmp};
+ghost use Rattle.sdb_domain.specs.Rows.{seen_row};
+ghost use Rattle.sdb_parse.specs.declared.select.Output.TheVariants.{Count};
+ghost use Rattle.sdb_page.specs.Seen.{front_of, left_after, seen_entry, seen_place};
 ghost use Rattle.sdb_page.specs.Selects.{answer_of, bound_of as bounded, count_on, items_on, limit_of as limited, next_of, page_of, position_at, room_of, shown_as, spot_at};
-ghost use Rattle.sdb_page.specs.Spots.{most_bytes, spot_cmp};
+ghost use Rattle.sdb_page.specs.Spots.{most_bytes, rows_of, spot_cmp};
 
 use crate::counting::bound_of;
 use crate::kept::{Kept, keep};
 use crate::page::Page;
+use crate::passing::passing;
 use crate::place::{Place, place_at, position_of};
-use crate::rows::{Row, scan_all};
 use crate::showing::{room_behind, show_all};
+use crate::total::count_after;
 use sdb_base::{OutOfMemory, Steps};
-use sdb_domain::Domain;
+use sdb_domain::{Domain, Row};
 use sdb_pairs::ItemsOut;
 use sdb_parse::{Output, Select, Sort};
 use sdb_token::Position;
@@ -39,7 +44,7 @@ pub fn select<'a, L>(
     ensures later { items.old ≤ items.new }
     ensures ticks { items.new ≤ items.old + length domain.now }
 {
-    let rows = scan_all(alloc, domain, items)?;
+    let rows = domain.scan_all(alloc, items)?;
     page(alloc, select, after, rows.as_slice())
 }
 
@@ -55,7 +60,7 @@ pub fn walk<'a, L>(
     ensures later { items.old ≤ items.new }
     ensures ticks { items.new ≤ items.old + length domain.now }
 {
-    let rows = scan_all(alloc, domain, items)?;
+    let rows = domain.scan_all(alloc, items)?;
     whole(alloc, select, rows.as_slice())
 }
 
@@ -63,7 +68,8 @@ pub fn walk<'a, L>(
 fn whole<'a>(alloc: Global, select: &Select, rows: &[Row<'a>]) -> Result<ItemsOut<'a>, OutOfMemory>
     ensures { IfOk result (λ items. items ≡ map (shown_as select.now.output) (answer_of select.now (map seen_row rows.now))) }
 {
-    let kept = keep(alloc, select, None, rows.len(), rows)?;
+    let passing = passing(alloc, &select.cond, rows)?;
+    let kept = keep(alloc, &select.sort, None, rows.len(), passing.as_slice())?;
     let placed = in_order(alloc, kept)?;
     show_all(alloc, &select.output, placed.as_slice())
 }
@@ -75,15 +81,55 @@ fn page<'a>(
     after: Option<&Position>,
     rows: &[Row<'a>],
 ) -> Result<Page<'a>, OutOfMemory>
+    requires { IsRising text_cmp (map seen_row rows.now) }
     ensures items { IfOk result (λ page. page.items ≡ items_on select.now.output (page_of select.now (map seen_row rows.now) (option_copied after.entry))) }
     ensures count { IfOk result (λ page. page.count ≡ count_on select.now.output (page_of select.now (map seen_row rows.now) (option_copied after.entry))) }
     ensures next { IfOk result (λ page. page.next ≡ next_of select.now (map seen_row rows.now) (option_copied after.entry)) }
     ensures bound { IfOk result (λ page. page.bound ≡ bounded select.now.cond (map seen_row rows.now)) }
 {
-    let bound = bound_of(&select.cond, rows);
+    let passing = passing(alloc, &select.cond, rows)?;
+    let bound = bound_of(&select.cond, rows, passing.as_slice());
+    if counts_all(select) {
+        return Ok(total(alloc, &select.sort, after, bound, passing.as_slice()));
+    }
     let limit = limit_of(&select.limit, &select.output, rows.len());
-    let placed = place_rows(alloc, select, after, limit, rows)?;
+    let placed = place_rows(alloc, &select.sort, after, limit + 1, passing.as_slice())?;
     cut(alloc, select, limit, bound, placed.as_slice())
+}
+
+// Whether items are counted without a limit.
+fn counts_all(select: &Select) -> bool
+    ensures counted { result ≡ true → select.now.output ≡ Count }
+    ensures unlimited { result ≡ true → select.now.limit ≡ None }
+{
+    match &select.output {
+        Output::Count => select.limit.is_none(),
+        Output::All | Output::Names | Output::Listed(_) => false,
+    }
+}
+
+// The page of a count without a limit: it counts all that stands after the position.
+fn total<'a>(
+    alloc: Global,
+    sort: &Option<Sort>,
+    position: Option<&Position>,
+    bound: u64,
+    rows: &[Row<'_>],
+) -> Page<'a>
+    requires { IsRising text_cmp (map seen_row rows.now) }
+    ensures items { result.items ≡ [] }
+    ensures count { result.count ≡ Some (length (after spot_cmp (rows_of sort.now (map seen_row rows.now)) (option_map (spot_at sort.now) (option_copied position.entry)))) }
+    ensures next { result.next ≡ None }
+    ensures bound { result.bound ≡ bound }
+{
+    let start = start_at(sort, position);
+    let count = count_after(sort, start, rows);
+    Page {
+        items: ItemsOut::new(alloc),
+        count: Some(count),
+        next: None,
+        bound,
+    }
 }
 
 // How many items a page has at most.
@@ -108,19 +154,18 @@ fn start_at<'a>(sort: &Option<Sort>, after: Option<&'a Position>) -> Option<Plac
     Some(place_at(sort, position))
 }
 
-// The first rows behind a position, in the order of the Select: one more than the limit.
+// The first rows behind a position, in the order of the Select.
 fn place_rows<'a>(
     alloc: Global,
-    select: &Select,
+    sort: &Option<Sort>,
     position: Option<&Position>,
-    limit: usize,
+    most: usize,
     rows: &[Row<'a>],
 ) -> Result<Vec<(Place<'a>, Row<'a>)>, OutOfMemory>
-    requires { limit ≤ 65535 + length rows.now }
-    ensures { IfOk result (λ placed. map seen_entry placed.items ≡ take (limit + 1) (after spot_cmp (answer_of select.now (map seen_row rows.now)) (option_map (spot_at select.now.sort) (option_copied position.entry)))) }
+    ensures { IfOk result (λ placed. map seen_entry placed.items ≡ take most (after spot_cmp (rows_of sort.now (map seen_row rows.now)) (option_map (spot_at sort.now) (option_copied position.entry)))) }
 {
-    let start = start_at(&select.sort, position);
-    let kept = keep(alloc, select, start, limit + 1, rows)?;
+    let start = start_at(sort, position);
+    let kept = keep(alloc, sort, start, most, rows)?;
     in_order(alloc, kept)
 }
 

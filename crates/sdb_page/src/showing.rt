@@ -1,13 +1,14 @@
 // What is shown of an item, and the room that it takes on a page.
 ghost use Rattle.std.specs.Prelude.{◌≡◌, map, bytes_eq, sum_by, IfOk};
 ghost use Rattle.std.specs.List.{list_any};
-ghost use Rattle.sdb_page.specs.Seen.{left_of, seen_entry, seen_row, shows};
+ghost use Rattle.sdb_domain.specs.Rows.{seen_row};
+ghost use Rattle.sdb_page.specs.Seen.{left_of, seen_entry, shows};
 ghost use Rattle.sdb_page.specs.Selects.{item_room, shown_as};
 ghost use Rattle.sdb_page.specs.Spots.{pair_bytes, shown_pairs};
 
 use crate::place::Place;
-use crate::rows::Row;
 use sdb_base::{OutOfMemory, Text, Texts};
+use sdb_domain::Row;
 use sdb_pairs::{ItemOut, ItemsOut, Pair, Pairs};
 use sdb_parse::Output;
 use std::alloc::Global;

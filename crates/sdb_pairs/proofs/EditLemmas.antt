@@ -18,28 +18,28 @@ use Rattle.sdb_pairs.proofs.PairLemmas.{pair_total, pair_exact, rising_filtered,
 use Rattle.sdb_base.proofs.EntryLemmas.{key_at}
 
 -- whether the pair is there
-abbrev among : Pair → List Pair → Bool
+abbrev pub among : Pair → List Pair → Bool
 among q ps = has pair_total q ps
 
-kept_by : (q : Pair) (test : Pair → Bool) (ps : List Pair) → among q (filter test ps) ≡ (among q ps && test q)
+pub kept_by : (q : Pair) (test : Pair → Bool) (ps : List Pair) → among q (filter test ps) ≡ (among q ps && test q)
 kept_by q test ps = is_member-filter (eq_by_cmp_equiv pair_total) test q (λ x e. ap test (key_at pair_exact q x e)) ps
 
-and_true : (a : Bool) → a ≡ (a && true)
+pub and_true : (a : Bool) → a ≡ (a && true)
 and_true true = refl
 and_true false = refl
 
-neither : (a b c : Bool) → ((a && not b) && not c) ≡ (a && not (b || c))
+pub neither : (a b c : Bool) → ((a && not b) && not c) ≡ (a && not (b || c))
 neither true true c = refl
 neither true false c = refl
 neither false b c = refl
 
-regroup : (a b c : Bool) → ((a || b) || c) ≡ (b || (a || c))
+pub regroup : (a b c : Bool) → ((a || b) || c) ≡ (b || (a || c))
 regroup true true c = refl
 regroup true false c = refl
 regroup false true c = refl
 regroup false false c = refl
 
-or_false : (a : Bool) → a ≡ (a || false)
+pub or_false : (a : Bool) → a ≡ (a || false)
 or_false true = refl
 or_false false = refl
 
@@ -58,14 +58,14 @@ after_adds q ps (p ∷ more) =
     ∙ ap (λ b. b || among q (map (λ x. x.pair) more)) (has-insert_key pair_total q p.pair ps)
     ∙ regroup (eq_by_cmp pair_cmp q p.pair) (among q ps) (among q (map (λ x. x.pair) more))
 
-after_all : (q : Pair) (acc ps : List Pair) → among q (fold with_pair acc ps) ≡ (among q acc || among q ps)
+pub after_all : (q : Pair) (acc ps : List Pair) → among q (fold with_pair acc ps) ≡ (among q acc || among q ps)
 after_all q acc [] = or_false (among q acc)
 after_all q acc (p ∷ ps) =
     after_all q (with_pair acc p) ps
     ∙ ap (λ b. b || among q ps) (has-insert_key pair_total q p acc)
     ∙ regroup (eq_by_cmp pair_cmp q p) (among q acc) (among q ps)
 
-rising_all : (acc ps : List Pair) → IsStrictlySortedBy pair_cmp acc → IsStrictlySortedBy pair_cmp (fold with_pair acc ps)
+pub rising_all : (acc ps : List Pair) → IsStrictlySortedBy pair_cmp acc → IsStrictlySortedBy pair_cmp (fold with_pair acc ps)
 rising_all acc [] s = s
 rising_all acc (p ∷ ps) s = rising_all (with_pair acc p) ps (rising-insert_key pair_total p acc s)
 

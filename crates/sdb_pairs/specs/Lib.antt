@@ -5,4 +5,5 @@ pub mod Laws
 pub mod Lawful
 pub mod Listing
 pub mod Pairs
+pub mod Parts
 pub use Rattle.sdb_base.specs.Entries

@@ -4,16 +4,20 @@ ghost use Rattle.std.specs.List.{remove_range};
 ghost use Rattle.std.specs.List.Sorted.{IsStrictlySortedBy};
 ghost use Rattle.sdb_pairs.specs.Pairs.{pair_cmp, is_named, part_named};
 
+use crate::few::few_named;
 use crate::op::Op;
 use crate::pair::Pair;
 use sdb_base::{OutOfMemory, Text};
 use std::alloc::Global;
 use std::marker::Model;
 
+// Up to so many pairs are looked through one by one where those of a name are wanted.
+const FEW: usize = 8;
+
 /// The pairs of one item, strictly rising by name and then by value.
 #[derive(Debug, Drop)]
 pub struct Item {
-    pairs: Vec<Pair>,
+    pub(crate) pairs: Vec<Pair>,
 }
 
 impl Model for Item {
@@ -53,8 +57,12 @@ impl Item {
     pub fn values(&self, name: &Text) -> &[Pair]
         ensures { result.now ≡ part_named name.now self.now }
     {
-        let (start, end) = span_of(self.pairs.as_slice(), name);
-        &self.pairs[start..end]
+        let pairs = self.pairs.as_slice();
+        if pairs.len() <= FEW {
+            return few_named(pairs, name);
+        }
+        let (start, end) = span_of(pairs, name);
+        &pairs[start..end]
     }
 
     // A second item of the same pairs, with room for so many.
@@ -82,7 +90,7 @@ impl Item {
         Ok(())
     }
 
-    fn add_pair(&mut self, alloc: Global, pair: &Pair) -> Result<(), OutOfMemory>
+    pub(crate) fn add_pair(&mut self, alloc: Global, pair: &Pair) -> Result<(), OutOfMemory>
         ensures ok { OnOk result (self.new ≡ with_pair self.old pair.now) }
         ensures err { OnErr result (self.new ≡ self.old) }
     {

@@ -3,11 +3,13 @@
 
 mod change;
 mod edits;
+mod few;
 mod item;
 mod laws;
 mod listing;
 mod op;
 mod pair;
+mod part;
 
 pub use change::{Change, Changes};
 pub use edits::merge;
@@ -20,6 +22,7 @@ pub use laws::{
 pub use listing::{ItemOut, ItemsOut, Pairs};
 pub use op::{Op, Ops};
 pub use pair::Pair;
+pub use part::{Exchange, touched};
 
 #[cfg(test)]
 mod tests;

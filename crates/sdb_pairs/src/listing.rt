@@ -42,18 +42,21 @@ impl<'a> Pairs<'a> {
         Ok(())
     }
 
+    /// The number of pairs.
     pub fn len(&self) -> usize
         ensures { result ≡ length self.now }
     {
         self.inner.len()
     }
 
+    /// Whether there is no pair.
     pub fn is_empty(&self) -> bool
         ensures { IsTrue result ↔ (self.now ≡ []) }
     {
         self.inner.is_empty()
     }
 
+    /// The pairs in their order, each lent from its item.
     pub fn as_slice(&self) -> &[&'a Pair]
         ensures { lent result.now ≡ self.now }
     {
@@ -77,18 +80,21 @@ impl<'a> Model for ItemOut<'a> {
 }
 
 impl<'a> ItemOut<'a> {
+    /// The item of that name, with the pairs that are shown of it.
     pub fn new(name: &'a Text, pairs: Pairs<'a>) -> ItemOut<'a>
         ensures { result ≡ record { name = name.now; pairs = pairs.entry } }
     {
         ItemOut { name, pairs }
     }
 
+    /// The item's name.
     pub fn name(&self) -> &'a Text
         ensures { result.now ≡ self.now.name }
     {
         self.name
     }
 
+    /// The pairs that are shown of the item.
     pub fn pairs(&self) -> &Pairs<'a>
         ensures { result.now ≡ self.now.pairs }
     {

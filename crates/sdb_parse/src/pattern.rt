@@ -26,6 +26,7 @@ impl Pattern {
         Pattern { text }
     }
 
+    /// The text of the pattern, escapes and all.
     pub fn text(&self) -> &Text
         ensures { result.now ≡ self.now }
     {

@@ -4,9 +4,10 @@ use Rattle.sdb_arrivals.specs.Story.{Answer, Done, Full, Disk, NotAStore, OutOfM
 use Rattle.sdb_base.specs.Causes.{Rose}
 use Rattle.sdb_core.specs.Ledgers.{Ledger, Opening, arrived, comes, commits, filled, if_sound, ledger, moves, works}
 use Rattle.sdb_core.specs.Told.{RoseBy, faults_in, faults_of, faults_of_commit, faults_of_work}
+use Rattle.sdb_replay.specs.Laws.{IsUnharmed}
 
 -- the store is sound, and nothing is undecided
-abbrev Settled : Ledger → Type 0
+abbrev pub Settled : Ledger → Type 0
 Settled l = (l.sound ≡ true) × (l.undecided ≡ None)
 
 come-settled : (b : Bool) (o : Opening) (s : Step) (l : Ledger) → Settled l → Settled (if_sound b (filled o s.refused (arrived s.came l)) (arrived s.came l))
@@ -43,15 +44,18 @@ moves-settled Commit o s l settled none =
     (commits-settled s.answer o s l settled (ap (λ b. faults_of_commit b s.answer) (sym settled.0) ∙ none))
 moves-settled Work o s l settled none = works-settled s.answer l settled none
 
-settled : (o : Opening) (story : List Step) → faults_in o story ≡ 0 → Settled (ledger o story)
+pub settled : (o : Opening) (story : List Step) → faults_in o story ≡ 0 → Settled (ledger o story)
 settled o [] none = (refl, refl)
 settled o (s ∷ story) none =
     moves-settled s.event o s (ledger o story) (settled o story (omega (arith, none))) (omega (arith, none))
 
-pub all_decided : (o : Opening) (story : List Step) (before now : ℕ) → RoseBy (faults_in o story) before now → (Rose before now → ⊥)
-    → ((ledger o story).sound ≡ true) × ((ledger o story).undecided ≡ None)
-all_decided o story before now rose same = settled o story (none (faults_in o story) rose)
-  where
-    none : (n : ℕ) → RoseBy n before now → n ≡ 0
-    none zero rose = refl
-    none (suc n) rose = absurd (same (omega (arith, rose)))
+no_faults : (n before now : ℕ) → RoseBy n before now → (Rose before now → ⊥) → n ≡ 0
+no_faults zero before now rose same = refl
+no_faults (suc n) before now rose same = absurd (same (omega (arith, rose)))
+
+-- where the disk's count didn't rise, no step tells of a fault
+pub unharmed : (o : Opening) (story : List Step) → IsUnharmed o story → faults_in o story ≡ 0
+unharmed o story is = no_faults (faults_in o story) is.before is.now is.told is.none
+
+pub all_decided : (o : Opening) (story : List Step) → IsUnharmed o story → ((ledger o story).sound ≡ true) × ((ledger o story).undecided ≡ None)
+all_decided o story is = settled o story (unharmed o story is)

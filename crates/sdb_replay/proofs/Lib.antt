@@ -2,8 +2,10 @@ pub mod CompleteLemmas
 pub mod DecidedLemmas
 pub mod FillLemmas
 pub mod FollowLemmas
+pub mod OneLemmas
 pub mod PlayLemmas
 pub mod RecordLemmas
+pub mod RunLemmas
 pub mod ShownLemmas
 pub mod StartLemmas
 pub mod StepLemmas

@@ -3,9 +3,9 @@ use Rattle.std.proofs.Common.{◌≡◌, ℕ, ◌+◌, ◌≤◌, List, [], ◌�
 use Rattle.std.specs.Prelude.{IsTrue}
 use Rattle.sdb_arrivals.specs.Story.{Step}
 use Rattle.sdb_core.specs.Ledgers.{Opening, ledger}
-use Rattle.sdb_core.specs.Prefix.{Right, RightSince, Stands}
+use Rattle.sdb_core.specs.Prefix.{CrashPrefix, Right, RightSince, Stands}
 use Rattle.sdb_core.specs.Told.{RoseBy}
-use Rattle.sdb_disk.specs.Disk.{Elapses, Files, State}
+use Rattle.sdb_disk.specs.Disk.{Elapses, Files, LeavesOnly, State}
 use Rattle.sdb_keys.specs.declared.keys.Key.{Key}
 use Rattle.sdb_pairs.specs.Accounts.{DomainEntries}
 use Rattle.sdb_script.specs.Events.{Event}
@@ -24,6 +24,18 @@ right_from_opening follows o (s ∷ story) c stands = inr (right_from_opening (S
 rose-before : (n first mid last : ℕ) → first ≤ mid → RoseBy n mid last → RoseBy n first last
 rose-before n first mid last later rose = omega arith
 
+-- whatever a crash leaves at any moment of the opening or since is right after some step
+pub right_throughout : (before mid now : State) (keys : List Key) (accounts : DomainEntries) (number : ℕ) (story : List Step)
+    → IsTrue before.told → EachStands before accounts number → LeavesAsBefore before mid → Elapses before mid → Elapses mid now
+    → CrashPrefix now (opening keys accounts number mid.moment) story
+    → LeavesOnly before now (RightSince None (opening keys accounts number mid.moment) story [])
+right_throughout before mid now keys accounts number story is_told each leaves first time crash c left = elim (time.nothing_else before.moment c first.later left) [
+  | inl earlier ↦
+      let as_before = leaves is_told c earlier in
+      right_from_opening None (opening keys accounts number mid.moment) story c (as_before.same accounts number (each as_before.before as_before.was))
+  | inr later ↦ (crash story [] (sym (append-nil story))).right c later
+]
+
 -- a run over what the opening left
 pub tells_from : (status : Status) (before mid now : State) (keys : List Key) (accounts : DomainEntries) (number : ℕ) (events : List Event) (written all : Option (List ℕ))
     → IsTrue before.told → EachStands before accounts number → LeavesAsBefore before mid → Elapses before mid → Elapses mid now → before.faults ≤ mid.faults
@@ -41,10 +53,5 @@ tells_from status before mid now keys accounts number events written all is_told
     shows = plays.shows;
   };
   opened = first.later;
-  during = λ c left. elim (time.nothing_else before.moment c first.later left) [
-    | inl earlier ↦
-        let as_before = leaves is_told c earlier in
-        right_from_opening None (opening keys accounts number mid.moment) plays.story c (as_before.same accounts number (each as_before.before as_before.was))
-    | inr later ↦ (plays.crash plays.story [] (sym (append-nil plays.story))).right c later
-  ];
+  during = right_throughout before mid now keys accounts number plays.story is_told each leaves first time plays.crash;
 }

@@ -110,3 +110,27 @@ carries_to status (Piece conn moment bytes) Disk old new before now written all 
 carries_to status (Ended conn) Disk old new before now written all is carries = absurd cc
 carries_to status Commit Disk old new before now written all is carries = absurd cc
 carries_to status Work Disk old new before now written all is carries = absurd cc
+
+-- the answer by which a run ends where a file is bad
+pub ends_bad : (e : Event) (a : Answer) (file : ℕ) → ending e a ≡ Some (NotAStore file) → a ≡ BadFiles file
+ends_bad e (BadFiles k) file is = let same : k ≡ file = cc in ap BadFiles same
+ends_bad (Opened conn) NoMemory file is = absurd cc
+ends_bad (Piece conn moment bytes) NoMemory file is = absurd cc
+ends_bad (Ended conn) NoMemory file is = absurd cc
+ends_bad Commit NoMemory file is = absurd cc
+ends_bad Work NoMemory file is = absurd cc
+ends_bad (Opened conn) Done file is = absurd cc
+ends_bad (Piece conn moment bytes) Done file is = absurd cc
+ends_bad (Ended conn) Done file is = absurd cc
+ends_bad Commit Done file is = absurd cc
+ends_bad Work Done file is = absurd cc
+ends_bad (Opened conn) Full file is = absurd cc
+ends_bad (Piece conn moment bytes) Full file is = absurd cc
+ends_bad (Ended conn) Full file is = absurd cc
+ends_bad Commit Full file is = absurd cc
+ends_bad Work Full file is = absurd cc
+ends_bad (Opened conn) Disk file is = absurd cc
+ends_bad (Piece conn moment bytes) Disk file is = absurd cc
+ends_bad (Ended conn) Disk file is = absurd cc
+ends_bad Commit Disk file is = absurd cc
+ends_bad Work Disk file is = absurd cc

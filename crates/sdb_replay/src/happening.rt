@@ -10,8 +10,8 @@ use sdb_arrivals::{CoreFault, Event};
 use sdb_script::ScriptEvent;
 use sdb_status::Status;
 
-// What happens to the core; nothing at the end of the script.
-pub(crate) fn happening(event: &ScriptEvent) -> Option<Event<'_>>
+/// What happens to the core; nothing at the end of the script.
+pub fn core_event(event: &ScriptEvent) -> Option<Event<'_>>
     ensures { option_map story_event result ≡ option_map happening (event_of event.now) }
 {
     match event {

@@ -10,6 +10,8 @@ mod playing;
 mod shown;
 mod step;
 
-pub use laws::without_a_fault_all_is_decided;
+pub use happening::core_event;
+pub use laws::{without_a_fault_all_is_decided, without_a_fault_one_text_is_shown};
 pub use opening::open;
 pub use playing::replay;
+pub use shown::append_sent;

@@ -9,6 +9,7 @@ ghost use Rattle.sdb_replay.specs.Endings.{EachStands, LeavesAsBefore, NotOpened
 ghost use Rattle.sdb_replay.specs.Keyed.{GivesKeys};
 ghost use Rattle.sdb_replay.specs.Running.{NotBegun};
 ghost use Rattle.sdb_store.specs.Kept.{Ready};
+ghost use Rattle.sdb_store.specs.Opened.{IsBadFile};
 
 use crate::keyed::keys_of;
 use sdb_core::Core;
@@ -27,6 +28,7 @@ pub fn open<S: Source, D: Disk>(alloc: Global, keys: &mut S, disk: &mut D) -> Re
         → StandsFor core (D.state disk.new) (opening core.keys accounts number (D.state disk.new).moment) []) }
     ensures err { IfErr result (λ status. NotBegun status (S.left keys.old) (S.left keys.new) (D.state disk.old)) }
     ensures bad_keys { (line : ℕ) → result ≡ Err (Status.BadKeys line) → disk.new ≡ disk.old }
+    ensures bad { (file : ℕ) → result ≡ Err (Status.NotAStore file) → IsBadFile file (D.state disk.new) }
     ensures images { LeavesAsBefore (D.state disk.old) (D.state disk.new) }
     ensures sure { IsTrue (D.state disk.old).told → (accounts : DomainEntries) (number : ℕ) → EachStands (D.state disk.old) accounts number
         → (file : ℕ) → result ≡ Err (Status.NotAStore file) → ⊥ }
@@ -51,6 +53,7 @@ fn open_core<D: Disk>(alloc: Global, keys: Keys, disk: &mut D) -> Result<Core, S
         → StandsFor core (D.state disk.new) (opening core.keys accounts number (D.state disk.new).moment) []) }
     ensures err { IfErr result (λ status. NotOpened status (D.state disk.old)) }
     ensures bad_keys { (line : ℕ) → result ≡ Err (Status.BadKeys line) → ⊥ }
+    ensures bad { (file : ℕ) → result ≡ Err (Status.NotAStore file) → IsBadFile file (D.state disk.new) }
     ensures images { LeavesAsBefore (D.state disk.old) (D.state disk.new) }
     ensures sure { IsTrue (D.state disk.old).told → (accounts : DomainEntries) (number : ℕ) → EachStands (D.state disk.old) accounts number
         → (file : ℕ) → result ≡ Err (Status.NotAStore file) → ⊥ }

@@ -11,8 +11,9 @@ ghost use Rattle.sdb_replay.specs.Endings.{EachStands, Ends, Plays, Reads};
 ghost use Rattle.sdb_replay.specs.Running.{status_by};
 ghost use Rattle.sdb_script.specs.Events.{Event};
 ghost use Rattle.sdb_store.specs.Kept.{Ready};
+ghost use Rattle.sdb_store.specs.Opened.{IsBadFile};
 
-use crate::happening::happening;
+use crate::happening::core_event;
 use crate::opening::open;
 use crate::step::carry_out;
 use sdb_core::Core;
@@ -41,6 +42,8 @@ pub fn replay<S: Source, T: Source, K: Sink, D: Disk>(
     ensures read { result ≡ Status.ReadFault → Rose (S.faults keys.old) (S.faults keys.new) ⊎ Rose (T.faults input.old) (T.faults input.new) }
     ensures write { result ≡ Status.WriteFault → Rose (K.faults output.old) (K.faults output.new) }
     ensures disk { result ≡ Status.DiskFault → Rose (D.state disk.old).faults (D.state disk.new).faults }
+    // A file that is told to be bad is the first bad one of those that are left.
+    ensures bad { (file : ℕ) → result ≡ Status.NotAStore file → IsBadFile file (D.state disk.new) }
     ensures sure { IsTrue (D.state disk.old).told → (accounts : DomainEntries) (number : ℕ) → EachStands (D.state disk.old) accounts number
         → (file : ℕ) → result ≡ Status.NotAStore file → ⊥ }
     // Keys and a script that are well formed, files that stand for accounts and no fault are enough, but for memory.
@@ -67,6 +70,8 @@ fn open_and_play<S: Source, T: Source, K: Sink, D: Disk>(
     ensures read { result ≡ Status.ReadFault → Rose (S.faults keys.old) (S.faults keys.new) ⊎ Rose (T.faults input.old) (T.faults input.new) }
     ensures write { result ≡ Status.WriteFault → Rose (K.faults output.old) (K.faults output.new) }
     ensures disk { result ≡ Status.DiskFault → Rose (D.state disk.old).faults (D.state disk.new).faults }
+    // A file that is told to be bad is the first bad one of those that are left.
+    ensures bad { (file : ℕ) → result ≡ Status.NotAStore file → IsBadFile file (D.state disk.new) }
     ensures sure { IsTrue (D.state disk.old).told → (accounts : DomainEntries) (number : ℕ) → EachStands (D.state disk.old) accounts number
         → (file : ℕ) → result ≡ Status.NotAStore file → ⊥ }
 {
@@ -89,6 +94,7 @@ fn play<T: Source, K: Sink, D: Disk>(
     ensures plays { (given : List ℕ) × (events : List Event) × Consumes (T.left input.old) (T.left input.new) given × Reads result (T.left input.new) given events
         × (IsTrue (D.state disk.old).told → (o : Opening) → StandsFor core.old (D.state disk.old) o []
         → Plays result (D.state disk.old) (D.state disk.new) o events (K.written output.old) (K.written output.new)) }
+    ensures bad { (file : ℕ) → result ≡ Status.NotAStore file → IsBadFile file (D.state disk.new) }
     ensures sure { IsTrue (D.state disk.old).told → (o : Opening) → StandsFor core.old (D.state disk.old) o [] → (file : ℕ) → result ≡ Status.NotAStore file → ⊥ }
     ensures read { result ≡ Status.ReadFault → Rose (T.faults input.old) (T.faults input.new) }
     ensures write { result ≡ Status.WriteFault → Rose (K.faults output.old) (K.faults output.new) }
@@ -103,7 +109,7 @@ fn play<T: Source, K: Sink, D: Disk>(
             Ok(event) => event,
             Err(fault) => return status_by(fault),
         };
-        let Some(happens) = happening(&event) else {
+        let Some(happens) = core_event(&event) else {
             return Status::Done;
         };
         if let Err(status) = carry_out(alloc, core, happens, output, disk) {

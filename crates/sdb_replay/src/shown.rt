@@ -44,8 +44,8 @@ fn gather(alloc: Global, core: &mut Core, text: &mut Bytes) -> Result<(), OutOfM
     Ok(())
 }
 
-// Appends the record of an answer, and that of its connection's closing.
-fn append_sent(alloc: Global, out: &Out, text: &mut Bytes) -> Result<(), OutOfMemory>
+/// Appends the record of an answer, and that of its connection's closing.
+pub fn append_sent(alloc: Global, out: &Out, text: &mut Bytes) -> Result<(), OutOfMemory>
     ensures { OnOk result (text.new.bytes ≡ text.old.bytes ++ sent_text (sent_of out.now)) }
 {
     text.append(write_out(alloc, out)?.as_slice())?;

@@ -8,6 +8,7 @@ ghost use Rattle.sdb_core.specs.Told.{StandsFor};
 ghost use Rattle.sdb_disk.specs.Disk.{Elapses};
 ghost use Rattle.sdb_replay.specs.Running.{CarriesOn, CarriesTo};
 ghost use Rattle.sdb_store.specs.Kept.{Ready};
+ghost use Rattle.sdb_store.specs.Opened.{IsBadFile};
 
 use crate::happening::ending;
 use crate::shown::step_text;
@@ -37,6 +38,7 @@ pub(crate) fn carry_out<K: Sink, D: Disk>(
     ensures err { IfErr result (λ status. CarriesTo status (event_of happens.entry) core.old core.new (D.state disk.old) (D.state disk.new) (K.written output.old) (K.written output.new)) }
     ensures sure { IsTrue (D.state disk.old).told → (o : Opening) (story : List Step) → StandsFor core.old (D.state disk.old) o story
         → (file : ℕ) → result ≡ Err (Status.NotAStore file) → ⊥ }
+    ensures bad { (file : ℕ) → result ≡ Err (Status.NotAStore file) → IsBadFile file (D.state disk.new) }
     ensures ready { Ready core.new.store (D.state disk.new) }
     ensures write { result ≡ Err Status.WriteFault → Rose (K.faults output.old) (K.faults output.new) }
     ensures later { K.faults output.old ≤ K.faults output.new }

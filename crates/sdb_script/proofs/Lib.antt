@@ -8,3 +8,4 @@ pub mod Spelling
 pub mod Spells
 pub mod Stays
 pub mod WorkloadLemmas
+pub mod WorkloadScript

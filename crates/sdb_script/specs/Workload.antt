@@ -80,6 +80,10 @@ preparation =
     Opened 1 ∷ Opened 2 ∷ Opened 3 ∷ Opened 4
     ∷ asked 1 (Create 0) ∷ asked 1 (Create 1) ∷ asked 1 (Create 2) ∷ asked 1 (Create 3) ∷ Commit ∷ []
 
--- the script of size n: a hundred times n turns from the seed n
+-- what happens in the workload of size n: a hundred times n turns from the seed n, and a commit at the end
+abbrev pub happens_in : ℕ → List Event
+happens_in n = preparation ++ turns (100 * n) 0 n ++ Commit ∷ []
+
+-- its script
 abbrev pub workload : ℕ → List ℕ
-workload n = script_of (preparation ++ turns (100 * n) 0 n ++ Commit ∷ [])
+workload n = script_of (happens_in n)

@@ -1,11 +1,12 @@
 // The laws of scripts.
-ghost use Rattle.std.specs.Prelude.{◌≡◌, ℕ, ◌+◌, List, ◌∷◌, ◌++◌, drop, take, length, Option, None};
+ghost use Rattle.std.specs.Prelude.{◌≡◌, ℕ, ◌+◌, ◌^◌, ◌<◌, ◌≤◌, List, ◌∷◌, ◌++◌, drop, take, length, Option, None};
 ghost use Rattle.sdb_script.specs.Connections.{Connections, after_event, none_opened};
 ghost use Rattle.sdb_script.specs.Events.{Event};
 ghost use Rattle.sdb_script.specs.Fronts.{front, Whole, Wrong};
 ghost use Rattle.sdb_script.specs.Lawful.{MayCome, MayComeInTurn};
 ghost use Rattle.sdb_script.specs.Scripts.{IsScript, Tells};
 ghost use Rattle.sdb_script.specs.Spelled.{script_of, spelled};
+ghost use Rattle.sdb_script.specs.Workload.{happens_in, workload};
 
 /// A text has one reading as a script, whatever came before it.
 pub fn one_reading()
@@ -48,4 +49,10 @@ pub fn scripts_are_spelled()
     ensures told { (events : List Event) → MayComeInTurn none_opened events → IsScript (script_of events) events None }
     ensures may_come { (bytes : List ℕ) (events : List Event) → IsScript bytes events None → MayComeInTurn none_opened events }
     ensures spelled { (bytes : List ℕ) (events : List Event) → IsScript bytes events None → bytes ≡ script_of events }
+{}
+
+/// The workload of each size is a script of what happens in it, and fits into an input.
+pub fn workloads_are_scripts()
+    ensures script { (n : ℕ) → IsScript (workload n) (happens_in n) None }
+    ensures fits { (n : ℕ) → n ≤ 100 → length (workload n) < 2 ^ 40 }
 {}

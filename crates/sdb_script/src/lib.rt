@@ -20,7 +20,7 @@ pub use event::ScriptEvent;
 pub use fault::ScriptFault;
 pub use laws::{
     events_come_one_by_one, judged_records_stay, one_reading, records_are_spelled,
-    scripts_are_spelled,
+    scripts_are_spelled, workloads_are_scripts,
 };
 pub use reader::ScriptReader;
 pub use workload::generate;

@@ -98,6 +98,7 @@ pub record Keeps (core0 core : View) (disk0 disk_now : disk.State) (links0 now :
   pub bytes : core.table.bytes_taken ≤ core0.table.bytes_taken
   pub last : core.table.last_opened ≡ core0.table.last_opened
   pub told : disk_now.told ≡ disk0.told
+  pub time : disk.Elapses disk0 disk_now
   pub steady : SteadyLinks links0 now
   pub story : IsTrue disk0.told → (o : Opening) (start : links.State) (first : Begun) (moments : Option (List ℕ)) (acts : List Act) (c : ℕ)
       → Serving o start first acts core0 disk0 links0 moments → InTurn c None o acts → phase acts ≡ to_commit → length (in_hand (ledger o (story_of acts))) < 2 ^ 48

@@ -12,6 +12,7 @@ use Rattle.sdb_io.specs.Links as links
 use Rattle.sdb_serve.specs.Acts.{Act, IsDue, IsEnd, has, is_opening, Phase, after_done, committing, over, does, has_come, is_lost, loses, lost, phase, story_of, taken, waits_in}
 use Rattle.sdb_serve.specs.Stepping.{Stepped, emptied}
 use Rattle.sdb_serve.specs.Sending.{AllTo, SendsAll, lost_on, newly}
+use Rattle.sdb_core.proofs.StoryLemmas.{stands_with}
 use Rattle.sdb_core.specs.Causes.{CommitCause}
 use Rattle.sdb_serve.specs.Stepping.{to_do}
 use Rattle.sdb_serve.proofs.DoLemmas.{commits-falls}
@@ -24,28 +25,6 @@ use Rattle.sdb_serve.proofs.HandLemmas.{AllTo-given, AreOf-back, AreOf-front, ba
 use Rattle.sdb_serve.proofs.SendLemmas.{RoseBy-add}
 use Rattle.sdb_serve.proofs.ServingLemmas.{RoseBy-later, told-along}
 use Rattle.sdb_serve.proofs.SilentLemmas.{Serving-does}
-
--- a core stands for the same where its released answers were taken out
-pub stands-emptied : (k : View) (s : disk.State) (o : Opening) (story : List Step) → StandsFor k s o story → StandsFor (emptied k) s o story
-stands-emptied k s o story h = record {
-  keys = h.keys;
-  holds = record {
-    agrees = record {
-      held = h.holds.agrees.held;
-      waiting = h.holds.agrees.waiting;
-      few = h.holds.agrees.few;
-      sound = h.holds.agrees.sound;
-      pending = h.holds.agrees.pending;
-      accounts = h.holds.agrees.accounts;
-      resting = h.holds.agrees.resting;
-    };
-    keeps = h.holds.keeps;
-  };
-  connects = h.connects;
-  steps = h.steps;
-  moment = h.moment;
-  crash = h.crash;
-}
 
 -- after a Commit, whatever it was answered
 pub record Sent-all (a : Answer) (sound : Bool) (o : Opening) (start : links.State) (first : Begun) (acts : List Act) (c : ℕ) (later : Option ℕ)
@@ -271,7 +250,7 @@ any-commit a o start first moments acts c known later old mid after_sends new d0
     story = step_of Commit a mid.store d1 told.came told.refused ∷ story_of acts
 
     ended : MayEnd known later after_sends new d3 o story
-    ended = let P : View → Type 0 = λ v. StandsFor v d1 o story in ends story (subst P (sym empty) (stands-emptied mid d1 o story told.stands))
+    ended = let P : View → Type 0 = λ v. StandsFor v d1 o story in ends story (subst P (sym empty) (stands_with mid [] d1 o story told.stands))
 
     by : InTurn c known o acts → Sent-all a mid.store.sound o start first acts c later new d3 links1 moments
     by (inl quiet) = quiet-commit a o start first moments acts c known later old mid after_sends new d0 d1 d3 links0 links1 h quiet due told empty disk_later none ended

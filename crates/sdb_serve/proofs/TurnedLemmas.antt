@@ -155,6 +155,7 @@ pub record Drives (made : ℕ) (core0 core : View) (disk0 disk_now : disk.State)
   pub opened : core.table.last_opened ≤ now.last
   pub bytes : core.table.bytes_taken ≤ 65536 * made
   pub told : disk_now.told ≡ disk0.told
+  pub time : disk.Elapses disk0 disk_now
   pub later : links0.faults ≤ now.faults
   pub story : IsTrue disk0.told → (o : Opening) → StandsFor core0 disk0 o [] → core0.line.out ≡ []
       → (acts : List Act) × Serving o links0 (record { moments = moments0; faults = disk0.faults }) acts core disk_now now moments × (phase acts ≡ resting) × IsQuiet o acts × (taken acts ≡ made)

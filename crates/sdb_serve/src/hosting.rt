@@ -3,11 +3,13 @@ ghost use Rattle.std.specs.Prelude.{◌≡◌, ◌≤◌, ℕ, [], IsTrue};
 ghost use Rattle.sdb_base.specs.Causes.{Rose};
 ghost use Rattle.sdb_core.specs.Ledgers.{Opening};
 ghost use Rattle.sdb_core.specs.Told.{StandsFor};
+ghost use Rattle.sdb_disk.specs.Disk.{Elapses};
 ghost use Rattle.sdb_pairs.specs.Accounts.{DomainEntries};
 ghost use Rattle.sdb_replay.specs.Endings.{EachStands};
 ghost use Rattle.sdb_serve.specs.Acts.{IsOfServer};
 ghost use Rattle.sdb_serve.specs.Hosting.{Attends, Listens};
 ghost use Rattle.sdb_store.specs.Kept.{Ready};
+ghost use Rattle.sdb_store.specs.Opened.{IsBadFile};
 
 use crate::server::drive;
 use sdb_core::Core;
@@ -31,6 +33,8 @@ pub fn serve<S: Source, L: Links, D: Disk, C: Clock>(
     ensures attends { Attends result port turns (S.left keys.old) (S.left keys.new) (D.state disk.old) (D.state disk.new)
         (L.state links.old) (L.state links.new) (C.to_come clock.old) (C.to_come clock.new) }
     ensures bad_keys { (line : ℕ) → result ≡ Status.BadKeys line → (disk.new ≡ disk.old) × (links.new ≡ links.old) × (clock.new ≡ clock.old) }
+    // A file that is told to be bad is the first bad one of those that are left.
+    ensures bad { (file : ℕ) → result ≡ Status.NotAStore file → IsBadFile file (D.state disk.new) }
     ensures sure { IsTrue (D.state disk.old).told → (accounts : DomainEntries) (number : ℕ) → EachStands (D.state disk.old) accounts number
         → (file : ℕ) → result ≡ Status.NotAStore file → ⊥ }
     ensures links { result ≡ Status.LinkFault → Rose (L.state links.old).faults (L.state links.new).faults }
@@ -62,6 +66,8 @@ fn listen<L: Links, D: Disk, C: Clock>(
     ensures sure { IsTrue (D.state disk.old).told → (o : Opening) → StandsFor core.old (D.state disk.old) o [] → core.old.line.out ≡ []
         → (file : ℕ) → result ≡ Status.NotAStore file → ⊥ }
     ensures links { result ≡ Status.LinkFault → Rose (L.state links.old).faults (L.state links.new).faults }
+    ensures bad { (file : ℕ) → result ≡ Status.NotAStore file → IsBadFile file (D.state disk.new) }
+    ensures time { Elapses (D.state disk.old) (D.state disk.new) }
     ensures of_server { IsOfServer result }
 {
     match links.bind(port) {

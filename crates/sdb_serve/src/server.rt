@@ -1,11 +1,13 @@
 //! The server: turn after turn.
-ghost use Rattle.std.specs.Prelude.{◌≡◌, ◌≤◌, [], length, IsTrue};
+ghost use Rattle.std.specs.Prelude.{◌≡◌, ◌≤◌, ℕ, [], length, IsTrue};
 ghost use Rattle.sdb_base.specs.Causes.{Rose};
 ghost use Rattle.sdb_core.specs.Ledgers.{Opening};
 ghost use Rattle.sdb_core.specs.Told.{StandsFor};
+ghost use Rattle.sdb_disk.specs.Disk.{Elapses};
 ghost use Rattle.sdb_serve.specs.Acts.{IsOfServer};
 ghost use Rattle.sdb_serve.specs.Serving.{Served};
 ghost use Rattle.sdb_store.specs.Kept.{Ready};
+ghost use Rattle.sdb_store.specs.Opened.{IsBadFile};
 
 use crate::turn::turn;
 use sdb_core::Core;
@@ -38,11 +40,13 @@ pub fn drive<L: Links, D: Disk, C: Clock>(
     requires opened { core.old.table.last_opened ≡ 0 }
     requires bytes { core.old.table.bytes_taken ≡ 0 }
     ensures told { (D.state disk.new).told ≡ (D.state disk.old).told }
+    ensures time { Elapses (D.state disk.old) (D.state disk.new) }
     ensures fault { result ≡ Status.LinkFault → Rose (L.state links.old).faults (L.state links.new).faults }
     ensures served { IsTrue (D.state disk.old).told → (o : Opening) → StandsFor core.old (D.state disk.old) o [] → core.old.line.out ≡ []
         → Served result turns o (L.state links.old) (record { moments = C.to_come clock.old; faults = (D.state disk.old).faults })
         core.new (D.state disk.new) (L.state links.new) (C.to_come clock.new) }
     ensures later { (L.state links.old).faults ≤ (L.state links.new).faults }
+    ensures bad { (file : ℕ) → result ≡ Status.NotAStore file → IsBadFile file (D.state disk.new) }
     ensures of_server { IsOfServer result }
 {
     let Ok(mut buffer) = vec![in alloc; 0; MOST_PIECE] else {
@@ -65,11 +69,13 @@ fn take_turns<L: Links, D: Disk, C: Clock>(
     requires bytes { core.old.table.bytes_taken ≡ 0 }
     requires room { length buffer.old ≡ 65536 }
     ensures told { (D.state disk.new).told ≡ (D.state disk.old).told }
+    ensures time { Elapses (D.state disk.old) (D.state disk.new) }
     ensures fault { result ≡ Status.LinkFault → Rose (L.state links.old).faults (L.state links.new).faults }
     ensures served { IsTrue (D.state disk.old).told → (o : Opening) → StandsFor core.old (D.state disk.old) o [] → core.old.line.out ≡ []
         → Served result turns o (L.state links.old) (record { moments = C.to_come clock.old; faults = (D.state disk.old).faults })
         core.new (D.state disk.new) (L.state links.new) (C.to_come clock.new) }
     ensures later { (L.state links.old).faults ≤ (L.state links.new).faults }
+    ensures bad { (file : ℕ) → result ≡ Status.NotAStore file → IsBadFile file (D.state disk.new) }
     ensures of_server { IsOfServer result }
 {
     for _made in 0..turns {

@@ -5,12 +5,15 @@ ghost use Rattle.sdb_arrivals.specs.Story.{Step, answer_of};
 ghost use Rattle.sdb_base.specs.Causes.{Rose};
 ghost use Rattle.sdb_core.specs.Ledgers.{Opening, in_hand, ledger};
 ghost use Rattle.sdb_core.specs.Told.{StandsFor};
+ghost use Rattle.sdb_disk.specs.Disk.{Elapses};
 ghost use Rattle.sdb_io.specs.Clock.{moment_of, moments_after};
 ghost use Rattle.sdb_io.specs.Links.{State};
 ghost use Rattle.sdb_io.specs.declared.links.LinkEvent.TheVariants as given;
 ghost use Rattle.sdb_serve.specs.Acts.{Act, IsOfCore, IsOfServer, after_done, after_event, after_taken, after_work, committing, phase, resting, story_of, to_commit};
 ghost use Rattle.sdb_serve.specs.Serving.{Begun, Committed, CommitIsDue, Gave, InTurn, IsQuiet, LeadsTo, MayEnd, goes_on, Refuses, Serving, Steady, SteadyLinks, Turned, Went};
 ghost use Rattle.sdb_store.specs.Kept.{Ready};
+ghost use Rattle.sdb_status.specs.declared.status.Status.{Status};
+ghost use Rattle.sdb_store.specs.Opened.{IsBadFile};
 
 use crate::send::send_all;
 use crate::stepping::step;
@@ -36,7 +39,9 @@ pub(crate) fn turn<L: Links, D: Disk, C: Clock>(
     ensures opened { core.new.table.last_opened ≤ (L.state links.new).last }
     ensures taken { core.new.table.bytes_taken ≤ core.old.table.bytes_taken + 65536 }
     ensures told { (D.state disk.new).told ≡ (D.state disk.old).told }
+    ensures time { Elapses (D.state disk.old) (D.state disk.new) }
     ensures later { (L.state links.old).faults ≤ (L.state links.new).faults }
+    ensures bad { (file : ℕ) → result ≡ Err (Status.NotAStore file) → IsBadFile file (D.state disk.new) }
     ensures of_server { IfErr result IsOfServer }
     ensures fault { result ≡ Err Status.LinkFault → Rose (L.state links.old).faults (L.state links.new).faults }
     ensures story { IsTrue (D.state disk.old).told → (o : Opening) (start : State) (first : Begun) (acts : List Act)
@@ -60,6 +65,7 @@ pub(crate) fn turn<L: Links, D: Disk, C: Clock>(
 // More may come after an event, where it didn't end the server.
 fn goes_on(went: Result<(), Status>) -> Result<bool, Status>
     ensures is { result ≡ goes_on went }
+    ensures err { (status : Status) → result ≡ Err status → went ≡ Err status }
     ensures of_server { IfErr went IsOfCore → IfErr result IsOfServer }
 {
     match went {
@@ -81,8 +87,10 @@ pub(crate) fn open<L: Links, D: Disk>(
     ensures last { core.new.table.last_opened ≤ conn }
     ensures taken { core.new.table.bytes_taken ≤ core.old.table.bytes_taken }
     ensures told { (D.state disk.new).told ≡ (D.state disk.old).told }
+    ensures time { Elapses (D.state disk.old) (D.state disk.new) }
     ensures links { SteadyLinks (L.state links.old) (L.state links.new) }
     ensures links_alone { result ≡ Err Status.LinkFault → ⊥ }
+    ensures bad { (file : ℕ) → result ≡ Err (Status.NotAStore file) → IsBadFile file (D.state disk.new) }
     ensures of_core { IfErr result IsOfCore }
     ensures story { IsTrue (D.state disk.old).told → (o : Opening) (start before : State) (first : Begun) (moments : Option (List ℕ)) (acts : List Act) (buf : List ℕ)
         → Serving o start first acts core.old (D.state disk.old) before moments → phase acts ≡ resting → IsQuiet o acts
@@ -109,7 +117,9 @@ pub(crate) fn end<D: Disk>(core: &mut Core, disk: &mut D, conn: u32) -> Result<(
     requires ready { Ready core.old.store (D.state disk.old) }
     ensures steady { Steady 0 core.old core.new (D.state disk.new) }
     ensures told { (D.state disk.new).told ≡ (D.state disk.old).told }
+    ensures time { Elapses (D.state disk.old) (D.state disk.new) }
     ensures links_alone { result ≡ Err Status.LinkFault → ⊥ }
+    ensures bad { (file : ℕ) → result ≡ Err (Status.NotAStore file) → IsBadFile file (D.state disk.new) }
     ensures of_core { IfErr result IsOfCore }
     ensures story { IsTrue (D.state disk.old).told → (o : Opening) (start before now : State) (first : Begun) (moments : Option (List ℕ)) (acts : List Act) (buf : List ℕ)
         → Serving o start first acts core.old (D.state disk.old) before moments → phase acts ≡ resting → IsQuiet o acts
@@ -133,8 +143,10 @@ pub(crate) fn piece<L: Links, D: Disk>(
     requires bytes { core.old.table.bytes_taken + length bytes.now < 2 ^ 48 }
     ensures steady { Steady (length bytes.now) core.old core.new (D.state disk.new) }
     ensures told { (D.state disk.new).told ≡ (D.state disk.old).told }
+    ensures time { Elapses (D.state disk.old) (D.state disk.new) }
     ensures links { SteadyLinks (L.state links.old) (L.state links.new) }
     ensures links_alone { result ≡ Err Status.LinkFault → ⊥ }
+    ensures bad { (file : ℕ) → result ≡ Err (Status.NotAStore file) → IsBadFile file (D.state disk.new) }
     ensures of_core { IfErr result IsOfCore }
     ensures story { IsTrue (D.state disk.old).told → (o : Opening) (start before : State) (first : Begun) (read moments : Option (List ℕ)) (acts : List Act) (buf : List ℕ)
         → Serving o start first acts core.old (D.state disk.old) before read → phase acts ≡ resting → IsQuiet o acts
@@ -156,8 +168,10 @@ fn finish<L: Links, D: Disk>(core: &mut Core, links: &mut L, disk: &mut D) -> Re
     requires ready { Ready core.old.store (D.state disk.old) }
     ensures steady { Steady 0 core.old core.new (D.state disk.new) }
     ensures told { (D.state disk.new).told ≡ (D.state disk.old).told }
+    ensures time { Elapses (D.state disk.old) (D.state disk.new) }
     ensures links { SteadyLinks (L.state links.old) (L.state links.new) }
     ensures links_alone { result ≡ Err Status.LinkFault → ⊥ }
+    ensures bad { (file : ℕ) → result ≡ Err (Status.NotAStore file) → IsBadFile file (D.state disk.new) }
     ensures of_core { IfErr result IsOfCore }
     ensures story { IsTrue (D.state disk.old).told → (o : Opening) (start : State) (first : Begun) (moments : Option (List ℕ)) (acts : List Act) (c : ℕ)
         → Serving o start first acts core.old (D.state disk.old) (L.state links.old) moments → InTurn c None o acts → phase acts ≡ to_commit → length (in_hand (ledger o (story_of acts))) < 2 ^ 48
@@ -174,7 +188,9 @@ fn work<D: Disk>(core: &mut Core, disk: &mut D) -> Result<(), Status>
     requires ready { Ready core.old.store (D.state disk.old) }
     ensures steady { Steady 0 core.old core.new (D.state disk.new) }
     ensures told { (D.state disk.new).told ≡ (D.state disk.old).told }
+    ensures time { Elapses (D.state disk.old) (D.state disk.new) }
     ensures links_alone { result ≡ Err Status.LinkFault → ⊥ }
+    ensures bad { (file : ℕ) → result ≡ Err (Status.NotAStore file) → IsBadFile file (D.state disk.new) }
     ensures of_core { IfErr result IsOfCore }
     ensures story { IsTrue (D.state disk.old).told → (o : Opening) (start now : State) (first : Begun) (moments : Option (List ℕ)) (acts : List Act)
         → Serving o start first acts core.old (D.state disk.old) now moments → phase acts ≡ committing → IsQuiet o acts
@@ -189,8 +205,10 @@ fn commit_all<L: Links, D: Disk>(core: &mut Core, links: &mut L, disk: &mut D) -
     requires ready { Ready core.old.store (D.state disk.old) }
     ensures steady { Steady 0 core.old core.new (D.state disk.new) }
     ensures told { (D.state disk.new).told ≡ (D.state disk.old).told }
+    ensures time { Elapses (D.state disk.old) (D.state disk.new) }
     ensures links { SteadyLinks (L.state links.old) (L.state links.new) }
     ensures links_alone { result ≡ Err Status.LinkFault → ⊥ }
+    ensures bad { (file : ℕ) → result ≡ Err (Status.NotAStore file) → IsBadFile file (D.state disk.new) }
     ensures of_core { IfErr result IsOfCore }
     ensures story { IsTrue (D.state disk.old).told → (o : Opening) (start : State) (first : Begun) (moments : Option (List ℕ)) (acts : List Act) (c : ℕ)
         → Serving o start first acts core.old (D.state disk.old) (L.state links.old) moments → InTurn c None o acts → phase acts ≡ to_commit → length (in_hand (ledger o (story_of acts))) < 2 ^ 48
@@ -223,8 +241,10 @@ fn commit<L: Links, D: Disk>(
     requires ready { Ready core.old.store (D.state disk.old) }
     ensures steady { Steady 0 core.old core.new (D.state disk.new) }
     ensures told { (D.state disk.new).told ≡ (D.state disk.old).told }
+    ensures time { Elapses (D.state disk.old) (D.state disk.new) }
     ensures links { SteadyLinks (L.state links.old) (L.state links.new) }
     ensures links_alone { result ≡ Err Status.LinkFault → ⊥ }
+    ensures bad { (file : ℕ) → result ≡ Err (Status.NotAStore file) → IsBadFile file (D.state disk.new) }
     ensures of_core { IfErr result IsOfCore }
     ensures story { IsTrue (D.state disk.old).told → (o : Opening) (start : State) (first : Begun) (moments : Option (List ℕ)) (acts : List Act) (c : ℕ)
         → Serving o start first acts core.old (D.state disk.old) (L.state links.old) moments → InTurn c lost o acts → CommitIsDue o acts
@@ -245,6 +265,7 @@ fn end_lost<D: Disk>(core: &mut Core, disk: &mut D, before: Option<u32>, now: Op
     ensures steady { Steady 0 core.old core.new (D.state disk.new) }
     ensures told { (D.state disk.new).told ≡ (D.state disk.old).told }
     ensures faults { (D.state disk.old).faults ≤ (D.state disk.new).faults }
+    ensures disk { disk.new ≡ disk.old }
     ensures story { IsTrue (D.state disk.old).told → (o : Opening) (story : List Step) → StandsFor core.old (D.state disk.old) o story
         → MayEnd before now core.old core.new (D.state disk.new) o story }
 {
@@ -260,6 +281,7 @@ fn end_lost<D: Disk>(core: &mut Core, disk: &mut D, before: Option<u32>, now: Op
 // Whether a server goes on after an event that came.
 fn unless_over(answer: Result<(), CoreFault>) -> Result<(), Status>
     ensures links_alone { result ≡ Err Status.LinkFault → ⊥ }
+    ensures file { (file : ℕ) → result ≡ Err (Status.NotAStore file) → answer_of answer ≡ story.NotAStore file }
     ensures of_core { IfErr result IsOfCore }
     ensures leads { (event : story.Event) → LeadsTo (after_event event) result (after_taken (answer_of answer) event) }
 {
@@ -275,6 +297,7 @@ fn unless_over(answer: Result<(), CoreFault>) -> Result<(), Status>
 // Whether it goes on after a Commit or a Work.
 fn unless_no_store(answer: Result<(), CoreFault>) -> Result<(), Status>
     ensures links_alone { result ≡ Err Status.LinkFault → ⊥ }
+    ensures file { (file : ℕ) → result ≡ Err (Status.NotAStore file) → answer_of answer ≡ story.NotAStore file }
     ensures of_core { IfErr result IsOfCore }
     ensures leads { (event : story.Event) → LeadsTo (after_work event) result (after_done (answer_of answer) event) }
 {

@@ -13,7 +13,7 @@ use Rattle.std.proofs.lemmas.List.Elements.{filter-append}
 use Rattle.std.proofs.lemmas.List.Sums.{fold-append}
 use Rattle.sdb_base.specs.Pairs.{NamedValues}
 use Rattle.sdb_base.specs.Texts.{text_cmp}
-use Rattle.sdb_sign.specs.Canon.{is_signed, is_signed_name, rising, signed_params, with_param}
+use Rattle.sdb_sign.specs.Canon.{is_signed_name, rising, signed_params, with_param}
 
 rising-append : (params more : NamedValues) → rising (params ++ more) ≡ fold with_param (rising params) more
 unfolding rising

@@ -17,7 +17,7 @@ use Rattle.sdb_journal.specs.Reads.{Started, IsBadJournal}
 use Rattle.sdb_journal.proofs.HeadLemmas.{head_open, head_one}
 use Rattle.sdb_journal.specs.Rests.{RestsAt, base_of}
 use Rattle.sdb_store.specs.Kept.{Resting, Fits}
-use Rattle.sdb_store.specs.Opened.{StandsForSame, StandsAsBefore, OthersClosed, FirstRead}
+use Rattle.sdb_store.specs.Opened.{IsBadFile, StandsForSame, StandsAsBefore, OthersClosed, FirstRead}
 use Rattle.sdb_store.specs.Synced.{Synced}
 
 -- ---- the first file that breaks a rule
@@ -165,6 +165,9 @@ fits_first s place settled own rests = record { settled = subst (SettledFile s) 
 pub looked_settled : (a b : State) → Looks a b → ((k : ℕ) → k < 4 → SettledFile a k) → (k : ℕ) → k < 4 → SettledFile b k
 looked_settled a b looks settled k less = SettledFile-same a b k (looks.same.files k) (settled k less)
 
+pub looked_seen : (a b : State) → Looks a b → b.seen ≡ a.seen
+looked_seen a b looks i k = (looks.same.files k).seen i
+
 pub looked_closed : (a b : State) → Looks a b → OthersClosed a.seen → OthersClosed b.seen
 looked_closed a b looks others = record {
   first_checkpoint = subst (IsClosed 33) (sym (looks.same.files 0).seen) others.first_checkpoint;
@@ -276,3 +279,7 @@ opened_stand old a b synced time leaves =
     LeavesOnly-trans old a b (StandsAsBefore old) synced.time.later time (same_stand old a synced.images)
     (LeavesOnly-weaker a b (StandsAsBefore a) (StandsAsBefore old) leaves
     (λ c as_before. record { before = as_before.before; was = λ k. synced.no_more k (as_before.before k) (as_before.was k); same = as_before.same }))
+
+-- ---- after a refusal
+pub bad_still : (old now : State) (k : ℕ) → now.told ≡ old.told → now.seen ≡ old.seen → (k < 4) × (IsTrue old.told → IsFirstBad k old.seen) → IsBadFile k now
+bad_still old now k told seen refused = (refused.0, λ still. subst (IsFirstBad k) (sym seen) (refused.1 (subst IsTrue told still)))

@@ -1,10 +1,10 @@
 -- What an opening finds in the files, and what a crash during it leaves.
-use Rattle.std.specs.Prelude.{◌≡◌, ℕ, List, Option, None, Some}
+use Rattle.std.specs.Prelude.{◌≡◌, ◌<◌, ℕ, IsTrue, List, Option, None, Some}
 use Rattle.sdb_disk.specs.Disk.{Files, State, Image}
 use Rattle.sdb_pairs.specs.declared.change.Change.{Change}
 use Rattle.sdb_pairs.specs.Accounts.{DomainEntries}
 use Rattle.sdb_record.specs.Journals.{IsClosed}
-use Rattle.sdb_record.specs.Stands.{StandsFor}
+use Rattle.sdb_record.specs.Stands.{IsFirstBad, StandsFor}
 use Rattle.sdb_journal.specs.Places.{Place}
 use Rattle.sdb_journal.specs.Reads.{Started}
 
@@ -29,3 +29,7 @@ pub record FirstRead (place : Place) (changes : List Change) (file : List ℕ) :
   pub started : Started place changes file
   pub generation_is : place.generation ≡ 0
   pub first_is : place.first ≡ 0
+
+-- a bad file of a disk: one of the four, and, where the disk tells what its files are, the first of them that is bad
+abbrev pub IsBadFile : ℕ → State → Type 0
+IsBadFile k s = (k < 4) × (IsTrue s.told → IsFirstBad k s.seen)

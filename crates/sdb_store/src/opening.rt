@@ -27,6 +27,7 @@ pub(crate) fn open_files<D: Disk>(
     ensures small { IfOk result (λ x. HasSmallItems x.1) }
     ensures images { IsTrue (D.state disk.old).told → LeavesOnly (D.state disk.old) (D.state disk.new) (StandsAsBefore (D.state disk.old)) }
     ensures refused { OnRefusal result (λ k. (k < 4) × (IsTrue (D.state disk.old).told → IsFirstBad k (D.state disk.old).seen)) }
+    ensures unwritten { OnRefusal result (λ k. (D.state disk.new).seen ≡ (D.state disk.old).seen) }
     ensures sure { IsTrue (D.state disk.old).told → (accounts : DomainEntries) (number : ℕ) → StandsFor accounts number (D.state disk.old).seen → OnRefusal result (λ k. ⊥) }
     ensures time { Elapses (D.state disk.old) (D.state disk.new) }
     ensures told { (D.state disk.new).told ≡ (D.state disk.old).told }
@@ -51,6 +52,7 @@ fn open_settled<D: Disk>(alloc: Global, disk: &mut D) -> Result<(Journal, Accoun
     ensures small { IfOk result (λ x. HasSmallItems x.1) }
     ensures images { IsTrue (D.state disk.old).told → LeavesOnly (D.state disk.old) (D.state disk.new) (StandsAsBefore (D.state disk.old)) }
     ensures refused { OnRefusal result (λ k. (k < 4) × (IsTrue (D.state disk.old).told → IsFirstBad k (D.state disk.old).seen)) }
+    ensures unwritten { OnRefusal result (λ k. (D.state disk.new).seen ≡ (D.state disk.old).seen) }
     ensures time { Elapses (D.state disk.old) (D.state disk.new) }
     ensures told { (D.state disk.new).told ≡ (D.state disk.old).told }
     ensures cause { HasOpenCause (D.state disk.old).faults (D.state disk.new).faults result }

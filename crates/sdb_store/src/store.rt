@@ -12,7 +12,7 @@ ghost use Rattle.sdb_record.specs.Stands.{StandsFor, HasSmallItems, IsFirstBad};
 ghost use Rattle.sdb_journal.specs.Looks.{OnRefusal, HasOpenCause};
 ghost use Rattle.sdb_journal.specs.Rests.{StandsWith};
 ghost use Rattle.sdb_store.specs.Kept.{Keeps, Ready, Decides, waiting, number_with};
-ghost use Rattle.sdb_store.specs.Opened.{StandsAsBefore};
+ghost use Rattle.sdb_store.specs.Opened.{IsBadFile, StandsAsBefore};
 
 use crate::commit::commit_frame;
 use crate::frame::{clear, empty_frame, entries_in, make_room, put_entries};
@@ -53,7 +53,7 @@ impl Model for Store {
 
 impl Store {
     /// Opens the store in the files: syncs all four, reads them, and makes the first journal where there is none. A
-    /// refusal comes exactly where the files stand for no accounts, with the first bad file.
+    /// refusal comes exactly where the files stand for no accounts, with the first bad file, and leaves them as they are.
     pub fn start<D: Disk>(alloc: Global, disk: &mut D) -> Result<Store, OpenFault>
         ensures sound { IfOk result (λ store. store.sound ≡ true) }
         ensures pending { IfOk result (λ store. store.pending ≡ []) }
@@ -64,6 +64,8 @@ impl Store {
             → ((c : Files) → Image (D.state disk.old) c → StandsFor accounts number c) → Keeps store (D.state disk.new) accounts number None) }
         ensures images { IsTrue (D.state disk.old).told → LeavesOnly (D.state disk.old) (D.state disk.new) (StandsAsBefore (D.state disk.old)) }
         ensures refused { OnRefusal result (λ k. (k < 4) × (IsTrue (D.state disk.old).told → IsFirstBad k (D.state disk.old).seen)) }
+        ensures unwritten { OnRefusal result (λ k. (D.state disk.new).seen ≡ (D.state disk.old).seen) }
+        ensures bad { OnRefusal result (λ k. IsBadFile k (D.state disk.new)) }
         ensures sure { IsTrue (D.state disk.old).told → (accounts : DomainEntries) (number : ℕ) → StandsFor accounts number (D.state disk.old).seen → OnRefusal result (λ k. ⊥) }
         ensures time { Elapses (D.state disk.old) (D.state disk.new) }
         ensures told { (D.state disk.new).told ≡ (D.state disk.old).told }
@@ -217,7 +219,10 @@ impl Store {
         ensures sure { IsTrue (D.state disk.old).told → (accounts : DomainEntries) (number : ℕ) (undecided : Option Group)
             → Keeps self.old (D.state disk.old) accounts number undecided → OnRefusal result (λ k. ⊥) }
         ensures refused { OnRefusal result (λ k. (k < 4) × (IsTrue (D.state disk.old).told → IsFirstBad k (D.state disk.old).seen)) }
+        ensures unwritten { OnRefusal result (λ k. (D.state disk.new).seen ≡ (D.state disk.old).seen) }
+        ensures bad { OnRefusal result (λ k. IsBadFile k (D.state disk.new)) }
         ensures value { OnOk result (IsTrue (D.state disk.old).told → StandsFor self.new.accounts self.new.journal.sequence (D.state disk.old).seen) }
+        ensures still { OnOk result (IsTrue (D.state disk.old).told → StandsFor self.new.accounts self.new.journal.sequence (D.state disk.new).seen) }
         ensures ready { Ready self.new (D.state disk.new) }
 
         ensures ok { OnOk result ((self.new.sound ≡ true) × (self.new.pending ≡ [])) }

@@ -12,5 +12,10 @@ returns-in-Err-NotAStore-clause-not_a_store g c = λ k e.
     let named : NotAStore c.in-Err-NotAStore.file ≡ NotAStore k = rw c.in-Err-NotAStore.field-0-is at e in
     c.in-Err-NotAStore.ensures.refused k (c.in-Err-NotAStore.field-0-is ∙ ap fault.NotAStore (same_file _ k named))
 
+pub returns-in-Err-NotAStore-clause-bad : goal.returns-in-Err-NotAStore-clause-bad
+returns-in-Err-NotAStore-clause-bad g c = λ k e.
+    let named : NotAStore c.in-Err-NotAStore.file ≡ NotAStore k = rw c.in-Err-NotAStore.field-0-is at e in
+    c.in-Err-NotAStore.ensures.bad k (c.in-Err-NotAStore.field-0-is ∙ ap fault.NotAStore (same_file _ k named))
+
 pub returns-in-Err-NotAStore-clause-sure : goal.returns-in-Err-NotAStore-clause-sure
 returns-in-Err-NotAStore-clause-sure g c = λ told accounts number stands k e. c.in-Err-NotAStore.ensures.sure told accounts number stands _ c.in-Err-NotAStore.field-0-is

@@ -1,9 +1,11 @@
-use Rattle.std.proofs.Common.{◌≡◌, ◌∙◌, subst}
+use Rattle.std.proofs.Common.{◌≡◌, ◌∙◌, inl, inr, refl, subst}
 use Rattle.sdb_arrivals.specs.Queues.{Queues}
 use Rattle.sdb_arrivals.specs.Story.{Disk, Done, NotAStore, OutOfMemory}
 use Rattle.sdb_core.specs.Inside.{Fills}
 use Rattle.sdb_core.specs.Ledgers.{failed}
 use Rattle.sdb_core.proofs.CommitLemmas.{commit_done, commit_found, commit_lost, holds_given}
+use Rattle.sdb_core.proofs.FillLemmas.{no_both}
+use Rattle.sdb_core.proofs.FindLemmas.{finds_again, finds_bad, finds_committed, finds_failed}
 use Rattle.sdb_core.proofs.committing.commit_group.Goals as goal
 
 pub returns-in-Ok-clause-makes : goal.returns-in-Ok-clause-makes
@@ -61,3 +63,23 @@ returns-in-Err-OutOfMemory-clause-makes g c =
     commit_lost OutOfMemory c.args.line.now c.reopen.new.line c.args.store.now c.commit.new.self c.reopen.new.store before between now c.args.items.now c.reopen.new.items before.told
     (λ (e : OutOfMemory ≡ Done). cc) c.requires.sound c.in-Err.ensures.err.0 c.in-Err.ensures.kept_err c.commit.ensures.images c.commit.ensures.time.later c.reopen.ensures.time
     between.told c.commit.ensures.told c.refuse_held.new.self c.refuse_held.ensures c.reopen.ensures.during c.in-Err-OutOfMemory.ensures.err
+
+pub returns-in-Ok-clause-files : goal.returns-in-Ok-clause-files
+returns-in-Ok-clause-files g c = finds_committed c.args.store.now c.fill.new.store (g.D.Disk.state c.args.disk.now) (g.D.Disk.state c.commit.new.disk) c.requires.sound
+
+pub returns-in-Ok-reopen-clause-files : goal.returns-in-Ok-reopen-clause-files
+returns-in-Ok-reopen-clause-files g c =
+    finds_again c.args.store.now c.reopen.new.store (g.D.Disk.state c.args.disk.now) (g.D.Disk.state c.reopen.new.disk) c.requires.sound c.in-Ok-reopen.ensures.still
+
+pub returns-in-Err-Disk-clause-files : goal.returns-in-Err-Disk-clause-files
+returns-in-Err-Disk-clause-files g c =
+    finds_failed c.args.store.now c.reopen.new.store (g.D.Disk.state c.args.disk.now) (g.D.Disk.state c.reopen.new.disk) c.in-Err-Disk.ensures.err.sound Disk (inl refl)
+
+pub returns-in-Err-NotAStore-clause-files : goal.returns-in-Err-NotAStore-clause-files
+returns-in-Err-NotAStore-clause-files g c =
+    finds_bad c.args.store.now c.reopen.new.store (g.D.Disk.state c.args.disk.now) (g.D.Disk.state c.reopen.new.disk) c.in-Err-NotAStore.ensures.err.sound
+    c.in-Err-NotAStore.file (c.in-Err-NotAStore.ensures.bad c.in-Err-NotAStore.file c.in-Err-NotAStore.field-0-is) (λ lost. absurd (no_both c.requires.sound lost))
+
+pub returns-in-Err-OutOfMemory-clause-files : goal.returns-in-Err-OutOfMemory-clause-files
+returns-in-Err-OutOfMemory-clause-files g c =
+    finds_failed c.args.store.now c.reopen.new.store (g.D.Disk.state c.args.disk.now) (g.D.Disk.state c.reopen.new.disk) c.in-Err-OutOfMemory.ensures.err.sound OutOfMemory (inr refl)

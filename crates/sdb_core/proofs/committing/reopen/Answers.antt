@@ -1,3 +1,4 @@
+use Rattle.std.proofs.Common.{IsTrue, subst}
 use Rattle.sdb_core.specs.Ledgers.{durable, number}
 use Rattle.sdb_core.proofs.CommitLemmas.{reopens_all}
 use Rattle.sdb_core.proofs.committing.reopen.Goals as goal
@@ -12,3 +13,9 @@ returns-in-Err-clause-sure g c t o l h = c.in-Err.ensures.sure t (durable o l.gr
 
 pub returns-in-Err-clause-refused : goal.returns-in-Err-clause-refused
 returns-in-Err-clause-refused g c k e = (c.in-Err.ensures.refused k e).0
+
+pub returns-in-Ok-clause-stood : goal.returns-in-Ok-clause-stood
+returns-in-Ok-clause-stood g c told = (c.reopen.new.self.accounts, c.reopen.new.self.journal.sequence, c.in-Ok.ensures.value told)
+
+pub returns-in-Ok-clause-still : goal.returns-in-Ok-clause-still
+returns-in-Ok-clause-still g c told = (c.reopen.new.self.accounts, c.reopen.new.self.journal.sequence, c.in-Ok.ensures.still (subst IsTrue c.reopen.ensures.told told))

@@ -1,5 +1,6 @@
 use Rattle.std.proofs.Common.{length, ap, arith}
-use Rattle.sdb_page.specs.Seen.{seen_place, seen_row}
+use Rattle.sdb_domain.specs.Rows.{seen_row}
+use Rattle.sdb_page.specs.Seen.{seen_place}
 use Rattle.sdb_page.specs.Spots.{Row, spot_cmp}
 use Rattle.sdb_page.proofs.KeptLemmas.{put_one}
 use Rattle.sdb_page.proofs.kept.offer_at.Goals as goal

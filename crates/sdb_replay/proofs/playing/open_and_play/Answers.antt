@@ -34,3 +34,6 @@ returns-in-Ok-clause-sure g c =
 
 pub returns-in-Err-clause-sure : goal.returns-in-Err-clause-sure
 returns-in-Err-clause-sure g c = λ is_told accounts number each file is. c.in-Err.ensures.sure is_told accounts number each file (ap (λ s. Err s) is)
+
+pub returns-in-Err-clause-bad : goal.returns-in-Err-clause-bad
+returns-in-Err-clause-bad g c = λ file is. c.in-Err.ensures.bad file (ap (λ s. Err s) is)

@@ -84,3 +84,6 @@ events-preserved g c =
       later_read = omega (arith, c.events.invariant.later_read, c.next.ensures.later);
       later_write = omega (arith, c.events.invariant.later_write, c.carry_out.ensures.later);
     }
+
+pub returns-in-Err-carry_out-clause-bad : goal.returns-in-Err-carry_out-clause-bad
+returns-in-Err-carry_out-clause-bad g c = λ file is. c.in-Err-carry_out.ensures.bad file (ap (λ s. Err s) is)

@@ -1,11 +1,13 @@
-use Rattle.std.proofs.Common.{◌≡◌, ℕ, List, ◌+◌, length, map, sym, ◌∙◌, ap, subst}
+use Rattle.std.proofs.Common.{◌≡◌, ℕ, List, ◌+◌, length, map, Some, sym, ◌∙◌, ap, subst}
 use Rattle.std.specs.Io.KnownBytes.{Appends}
 use Rattle.sdb_arrivals.specs.Story.{Arrival, answer_of, event_of}
 use Rattle.sdb_arrivals.specs.Tables.{Turns}
 use Rattle.sdb_core.specs.Kept.{View}
 use Rattle.sdb_core.specs.Told.{released_of}
 use Rattle.sdb_replay.specs.Endings.{AppendsFront}
-use Rattle.sdb_replay.proofs.StepLemmas.{carried, carries_to, front_none}
+use Rattle.sdb_core.proofs.FindLemmas.{bad_file}
+use Rattle.sdb_status.specs.declared.status.Status.TheVariants.{NotAStore}
+use Rattle.sdb_replay.proofs.StepLemmas.{carried, carries_to, ends_bad, front_none}
 use Rattle.sdb_replay.proofs.step.carry_out.Goals as goal
 
 pub returns-in_default-clause-err : goal.returns-in_default-clause-err
@@ -50,3 +52,11 @@ returns-clause-ok g c = record {
       c.requires.quiet c.step_text.ensures.core c.step-answer.ensures.story
       (subst (λ text. Appends (g.K.Sink.written c.args.output.now) (g.K.Sink.written c.write_whole.new.sink) text) (c.as_slice.ensures ∙ c.in-Ok.ensures.text) c.in-Ok-write_whole.ensures.whole);
 }
+
+pub returns-in-Some-clause-bad : goal.returns-in-Some-clause-bad
+returns-in-Some-clause-bad g c =
+    λ file is.
+    let named : c.in-Some.status ≡ NotAStore file = cc in
+    bad_file (event_of c.args.happens) (answer_of c.step-answer.result) c.args.core.now c.step-answer.new.self (g.D.Disk.state c.args.disk.now) (g.D.Disk.state c.step-answer.new.disk)
+    c.step-answer.ensures.cause c.step-answer.ensures.files file
+    (ends_bad (event_of c.args.happens) (answer_of c.step-answer.result) file (sym c.in-Some.ensures ∙ ap Some named))

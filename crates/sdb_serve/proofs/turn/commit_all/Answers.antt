@@ -1,7 +1,9 @@
-use Rattle.std.proofs.Common.{◌≡◌, false, true, refl, sym, ◌∙◌, arith, rules}
+use Rattle.std.proofs.Common.{◌≡◌, Err, false, true, refl, sym, ap, ◌∙◌, arith, rules}
+use Rattle.sdb_disk.proofs.CallLemmas.{Elapses-trans}
 use Rattle.sdb_serve.specs.Acts.{committing}
 use Rattle.sdb_serve.proofs.CommitsLemmas.{Keeps, SoFar-due, SoFar-first, SoFar-more, Went-err, Went-quiet, steady-trans, to-commit-due}
 use Rattle.sdb_serve.proofs.ServingLemmas.{told-along}
+use Rattle.sdb_status.specs.declared.status.Status.TheVariants.{NotAStore}
 use Rattle.sdb_serve.proofs.turn.commit_all.Goals as goal
 
 pub returns-in-Err-clause-story : goal.returns-in-Err-clause-story
@@ -14,6 +16,7 @@ loop-made-init g c = record {
   bytes = omega (arith, c.in-Ok.ensures.steady.taken);
   last = c.in-Ok.ensures.steady.last;
   told = c.in-Ok.ensures.told;
+  time = c.in-Ok.ensures.time;
   steady = c.in-Ok.ensures.links;
   story = λ told o start first moments acts conn h turn is most.
       SoFar-first o start first moments acts conn c.in-Ok.lost _ _ _ most (c.in-Ok.ensures.story told o start first moments acts conn h turn (to-commit-due o acts is));
@@ -42,6 +45,7 @@ loop-made-preserved g c =
       bytes = omega (arith, next.steady.taken, so_far_all.bytes);
       last = next.steady.last ∙ so_far_all.last;
       told = next.told ∙ so_far_all.told;
+      time = Elapses-trans _ _ _ so_far_all.time next.time;
       steady = steady-trans _ _ _ so_far_all.steady next.links;
       story = λ told o start first moments acts conn h turn is most.
           let so_far = so_far_all.story told o start first moments acts conn h turn is most in
@@ -56,3 +60,16 @@ pub returns-clause-story : goal.returns-clause-story
 returns-clause-story g c = λ told o start first moments acts conn h turn is most.
     let so_far = c.loop-made.invariant.story told o start first moments acts conn h turn is most in
     absurd (omega (arith, so_far.left))
+
+pub returns-in-Err-commit-clause-time : goal.returns-in-Err-commit-clause-time
+returns-in-Err-commit-clause-time g c = Elapses-trans _ _ _ c.loop-made.invariant.time c.in-Err-commit.ensures.time
+
+pub returns-in-Err-commit-clause-bad : goal.returns-in-Err-commit-clause-bad
+returns-in-Err-commit-clause-bad g c = λ file is.
+    let named : c.in-Err-commit.status ≡ NotAStore file = cc in
+    c.in-Err-commit.ensures.bad file (ap Err named)
+
+pub returns-in-Err-clause-bad : goal.returns-in-Err-clause-bad
+returns-in-Err-clause-bad g c = λ file is.
+    let named : c.in-Err.status ≡ NotAStore file = cc in
+    c.in-Err.ensures.bad file (ap Err named)

@@ -13,3 +13,6 @@ returns-clause-story g c = λ told o start before now first moments acts buf h r
     (c.step-answer.ensures.story told o (story_of acts) h.stands)
     (Shift-ended (answer_of c.step-answer.result) c.args.conn buf before now gave)
     (c.unless_over.ensures.leads (Ended c.args.conn))
+
+pub returns-clause-bad : goal.returns-clause-bad
+returns-clause-bad g c = λ file is. c.step-answer.ensures.bad file (c.unless_over.ensures.file file is)

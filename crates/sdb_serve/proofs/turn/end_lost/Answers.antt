@@ -20,3 +20,6 @@ returns-in-Some-clause-story g c = λ told o story stands.
 
 pub returns-in_default-clause-story : goal.returns-in_default-clause-story
 returns-in_default-clause-story g c = λ told o story stands. inl (inr c.in_default.is, stands, refl)
+
+pub returns-in-Some-clause-disk : goal.returns-in-Some-clause-disk
+returns-in-Some-clause-disk g c = c.step.ensures.disk refl

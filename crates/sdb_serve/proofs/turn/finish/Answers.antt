@@ -1,4 +1,5 @@
 use Rattle.std.proofs.Common.{arith, sym, ◌∙◌, refl}
+use Rattle.sdb_disk.proofs.CallLemmas.{Elapses-trans}
 use Rattle.sdb_serve.specs.Acts.{committing, resting}
 use Rattle.sdb_serve.proofs.FinishLemmas.{Went-next, Went-over}
 use Rattle.sdb_serve.proofs.ServingLemmas.{told-along}
@@ -20,3 +21,6 @@ returns-in-Ok-clause-story g c = λ told o start first moments acts conn h turn 
 pub returns-in-Err-clause-story : goal.returns-in-Err-clause-story
 returns-in-Err-clause-story g c = λ told o start first moments acts conn h turn is most.
     Went-over committing resting 0 o start first moments acts c.in-Err.status _ _ _ (c.in-Err.ensures.story told o start first moments acts conn h turn is most)
+
+pub returns-in-Ok-clause-time : goal.returns-in-Ok-clause-time
+returns-in-Ok-clause-time g c = Elapses-trans _ _ _ c.in-Ok.ensures.time c.work.ensures.time

@@ -17,3 +17,6 @@ returns-clause-taken g c = omega (arith, c.step-answer.ensures.counts.taken)
 
 pub returns-clause-last : goal.returns-clause-last
 returns-clause-last g c = omega (arith, c.step-answer.ensures.counts.last)
+
+pub returns-clause-bad : goal.returns-clause-bad
+returns-clause-bad g c = λ file is. c.step-answer.ensures.bad file (c.unless_over.ensures.file file is)

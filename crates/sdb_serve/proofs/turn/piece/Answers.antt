@@ -1,5 +1,6 @@
 use Rattle.std.proofs.Common.{arith, sym, ◌∙◌, refl}
 use Rattle.sdb_arrivals.specs.Story.{Piece, answer_of}
+use Rattle.sdb_disk.proofs.CallLemmas.{Elapses-trans}
 use Rattle.sdb_serve.specs.Acts.{resting, story_of}
 use Rattle.sdb_serve.proofs.FinishLemmas.{Came-piece, Went-came, Went-next}
 use Rattle.sdb_serve.proofs.ServingLemmas.{told-along}
@@ -35,3 +36,9 @@ returns-in-Err-clause-story g c = λ told o start before first read moments acts
     (λ story messages. c.few_arrivals.ensures story c.args.conn messages) (omega (arith, c.step-answer.ensures.counts.taken, c.requires.bytes)) h rests quiet
     (c.step-answer.ensures.story told o (story_of acts) h.stands) (Shift-piece a c.args.conn c.args.moment bytes buf before _ gave full front) (now, after) in
     Went-came c.in-Err.status c.args.conn a (Piece c.args.conn c.args.moment bytes) o start first moments acts _ _ _ came (c.in-Err.ensures.leads (Piece c.args.conn c.args.moment bytes))
+
+pub returns-in-Err-clause-bad : goal.returns-in-Err-clause-bad
+returns-in-Err-clause-bad g c = λ file is. c.step-answer.ensures.bad file (c.in-Err.ensures.file file is)
+
+pub returns-in-Ok-clause-time : goal.returns-in-Ok-clause-time
+returns-in-Ok-clause-time g c = Elapses-trans _ _ _ c.step-answer.ensures.time c.finish.ensures.time

@@ -1,11 +1,13 @@
 use Rattle.std.proofs.Common.{◌≡◌, ◌≤◌, ℕ, List, length, take, Result, Bool, sym, ◌∙◌, ap, subst, arith}
 use Rattle.std.proofs.lemmas.List.{length-take-le}
+use Rattle.sdb_disk.proofs.CallLemmas.{Elapses-refl}
 use Rattle.sdb_io.specs.declared.links.LinkEvent.{LinkEvent}
 use Rattle.sdb_io.specs.declared.links.LinkEvent.TheVariants as given
 use Rattle.sdb_io.specs.Links.{IsWithin}
 use Rattle.sdb_serve.specs.Serving.{Gave, Turned}
 use Rattle.sdb_serve.proofs.TurnedLemmas.{Turned-closed, Turned-failed, Turned-went}
 use Rattle.sdb_status.specs.declared.status.Status.{Status}
+use Rattle.sdb_status.specs.declared.status.Status.TheVariants.{NotAStore}
 use Rattle.sdb_serve.proofs.turn.turn.Goals as goal
 
 pub returns-in_default-clause-story : goal.returns-in_default-clause-story
@@ -57,3 +59,18 @@ returns-in-Closed-clause-story g c = λ told o start first acts h rests quiet.
     let G : LinkEvent → Type 0 = λ e. Gave e c.next.new.buf (g.L.Links.state c.args.links.now) (g.L.Links.state c.next.new.self) in
     let gave : G c.in-Ok.event = record { told = came.told; later = came.later; last = came.last; faults = came.cause.later; comes = came.ok } in
     Turned-closed o start first _ acts c.next.new.buf _ _ _ _ h rests (subst G c.in-Closed.is gave)
+
+pub returns-in-Opened-clause-bad : goal.returns-in-Opened-clause-bad
+returns-in-Opened-clause-bad g c = λ file is. c.open.ensures.bad file (c.goes_on.ensures.err (NotAStore file) is)
+
+pub returns-in-Ended-clause-bad : goal.returns-in-Ended-clause-bad
+returns-in-Ended-clause-bad g c = λ file is. c.end.ensures.bad file (c.goes_on-in-Ended.ensures.err (NotAStore file) is)
+
+pub returns-in-Piece-clause-bad : goal.returns-in-Piece-clause-bad
+returns-in-Piece-clause-bad g c = λ file is. c.piece.ensures.bad file (c.goes_on-in-Piece.ensures.err (NotAStore file) is)
+
+pub returns-in_default-clause-time : goal.returns-in_default-clause-time
+returns-in_default-clause-time g c = Elapses-refl (g.D.Disk.state c.args.disk.now) (λ t f le image. g.met.D.Disk.counts_now c.args.disk.now t f le image) (λ f left. g.met.D.Disk.only_now c.args.disk.now f left)
+
+pub returns-in-Closed-clause-time : goal.returns-in-Closed-clause-time
+returns-in-Closed-clause-time g c = Elapses-refl (g.D.Disk.state c.args.disk.now) (λ t f le image. g.met.D.Disk.counts_now c.args.disk.now t f le image) (λ f left. g.met.D.Disk.only_now c.args.disk.now f left)

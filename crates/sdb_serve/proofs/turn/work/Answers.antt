@@ -10,3 +10,6 @@ pub returns-clause-story : goal.returns-clause-story
 returns-clause-story g c = λ told o start now first moments acts h commits quiet.
     Went-worked (answer_of c.step-answer.result) c.unless_no_store.result o start first moments acts _ _ _ _ now h commits quiet
     (c.step-answer.ensures.story told o (story_of acts) h.stands) (c.unless_no_store.ensures.leads Work)
+
+pub returns-clause-bad : goal.returns-clause-bad
+returns-clause-bad g c = λ file is. c.step-answer.ensures.bad file (c.unless_no_store.ensures.file file is)

@@ -1,4 +1,4 @@
-use Rattle.std.proofs.Common.{◌≡◌, ◌+◌, List, ℕ, ◌++◌, filter, drop, sym, ap, ◌∙◌}
+use Rattle.std.proofs.Common.{◌+◌, ◌++◌, filter, drop, sym, ap, ◌∙◌}
 use Rattle.sdb_base.specs.Pairs.{NamedValues}
 use Rattle.sdb_sign.specs.Canon.{is_signed, left_of}
 use Rattle.sdb_sign.proofs.Orders.{drop_more, next_as}

@@ -1,4 +1,4 @@
-use Rattle.std.proofs.Common.{IsTrue, sym, subst}
+use Rattle.std.proofs.Common.{◌∙◌, IsTrue, sym, subst}
 use Rattle.sdb_record.specs.Stands.{IsFirstBad}
 use Rattle.sdb_record.proofs.StandsLemmas.{none_is_bad}
 use Rattle.sdb_store.proofs.OpenLemmas.{same_stand, seen_still, opened_stand}
@@ -32,3 +32,7 @@ returns-in-Err-open_settled-clause-sure g c told accounts number stands k is =
 
 pub returns-in-Err-clause-images : goal.returns-in-Err-clause-images
 returns-in-Err-clause-images g c told = same_stand (g.D.Disk.state c.args.disk.now) (g.D.Disk.state c.sync_all.new.disk) c.sync_all.ensures.images
+
+pub returns-in-Err-open_settled-clause-unwritten : goal.returns-in-Err-open_settled-clause-unwritten
+returns-in-Err-open_settled-clause-unwritten g c k is =
+    c.in-Err-open_settled.ensures.unwritten k is ∙ seen_still (g.D.Disk.state c.args.disk.now) (g.D.Disk.state c.sync_all.new.disk) c.in-Ok.ensures.synced

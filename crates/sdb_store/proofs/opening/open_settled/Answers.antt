@@ -1,7 +1,7 @@
 use Rattle.std.proofs.Common.{◌≡◌, ◌≤◌, ◌<◌, ℕ, IsTrue, inl, sym, subst, arith}
 use Rattle.sdb_disk.specs.Disk.{Image}
 use Rattle.sdb_record.specs.Stands.{HasSmallItems, StandsFor, IsFirstBad}
-use Rattle.sdb_store.proofs.OpenLemmas.{stands_first, leads_too_far, each_stands, rests_first, fits_first, looked_settled, looked_closed, looked_read, same_stand, made_settled, made_own, made_rests, making_stands}
+use Rattle.sdb_store.proofs.OpenLemmas.{stands_first, leads_too_far, each_stands, rests_first, fits_first, looked_settled, looked_seen, looked_closed, looked_read, same_stand, made_settled, made_own, made_rests, making_stands}
 use Rattle.sdb_store.proofs.opening.open_settled.Goals as goal
 
 pub returns-in-Ok-Some-accounts_of-clause-value : goal.returns-in-Ok-Some-accounts_of-clause-value
@@ -89,3 +89,9 @@ returns-clause-images g c told = same_stand (g.D.Disk.state c.args.disk.now) (g.
 
 pub returns-clause-refused : goal.returns-clause-refused
 returns-clause-refused g c k is = let refused = c.in-Err.ensures.refused k is in (refused.0, λ told. inl (refused.1 told))
+
+pub returns-in-Ok-None-accounts_of-clause-unwritten : goal.returns-in-Ok-None-accounts_of-clause-unwritten
+returns-in-Ok-None-accounts_of-clause-unwritten g c k is = looked_seen (g.D.Disk.state c.args.disk.now) (g.D.Disk.state c.read_files.new.disk) c.read_files.ensures.looks
+
+pub returns-clause-unwritten : goal.returns-clause-unwritten
+returns-clause-unwritten g c k is = looked_seen (g.D.Disk.state c.args.disk.now) (g.D.Disk.state c.read_files.new.disk) c.read_files.ensures.looks

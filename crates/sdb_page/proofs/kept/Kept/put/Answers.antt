@@ -1,7 +1,8 @@
 use Rattle.std.proofs.Common.{List, map, ap, ◌∙◌}
 use Rattle.std.specs.BTreeMap.{insert_entry}
 use Rattle.sdb_page.specs.contracts.place.PlaceOrd.TheImpl.{cmp-value}
-use Rattle.sdb_page.specs.Seen.{seen_entry, seen_place, seen_row}
+use Rattle.sdb_domain.specs.Rows.{seen_row}
+use Rattle.sdb_page.specs.Seen.{seen_entry, seen_place}
 use Rattle.sdb_page.specs.Spots.{Row, spot_cmp}
 use Rattle.sdb_page.proofs.SeenLemmas.{insert_entry-seen}
 use Rattle.sdb_page.proofs.PlaceOrder.{places_seen}

@@ -3,6 +3,7 @@ use Rattle.sdb_disk.specs.Disk.{Image}
 use Rattle.sdb_store.specs.Frames.{group_in}
 use Rattle.sdb_store.proofs.FrameLemmas.{holds, none_pending, empty_is_frame}
 use Rattle.sdb_store.proofs.KeptLemmas.{keeps_own, keeps_stood}
+use Rattle.sdb_store.proofs.OpenLemmas.{bad_still}
 use Rattle.sdb_store.proofs.store.Store.start.Goals as goal
 
 pub invariant_of-result : goal.invariant_of-result
@@ -26,3 +27,7 @@ returns-in-Ok-empty_frame-clause-kept g c told accounts number all =
     let image : Image (g.D.Disk.state c.args.disk.now) (g.D.Disk.state c.args.disk.now).seen = λ k. g.met.D.Disk.may_stay c.args.disk.now k told in
     keeps_stood _ (g.D.Disk.state c.open_files.new.disk) none (c.in-Ok.ensures.keeps told) (g.D.Disk.state c.args.disk.now).seen (c.in-Ok.ensures.value told) accounts number
     (all (g.D.Disk.state c.args.disk.now).seen image)
+
+pub returns-in-Err-clause-bad : goal.returns-in-Err-clause-bad
+returns-in-Err-clause-bad g c k is =
+    bad_still (g.D.Disk.state c.args.disk.now) (g.D.Disk.state c.open_files.new.disk) k c.open_files.ensures.told (c.in-Err.ensures.unwritten k is) (c.in-Err.ensures.refused k is)
