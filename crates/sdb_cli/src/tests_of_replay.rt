@@ -1,4 +1,6 @@
 // Tests of `replay` over keys, scripts, outputs and disks in memory.
+ghost use Rattle.std.specs.Prelude.{◌≤◌, length, IfOk};
+
 use crate::Status;
 use crate::tests::{run_plainly, words};
 use sdb_base::{Bytes, Numbers};
@@ -124,6 +126,16 @@ fn runs_end_by_their_causes(rt: HostRuntime) -> Result<(), Fail> {
     Ok(())
 }
 
+// A file of these few bytes.
+fn file(alloc: Global, bytes: &[u8]) -> Result<Bytes, Fail>
+    ensures { IfOk result (λ file. length file.bytes ≤ 1024) }
+{
+    if bytes.len() > 1024 {
+        Err("the file is too large")?
+    }
+    Ok(Bytes::from_slice(alloc, bytes)?)
+}
+
 // The status of a replay over files: two checkpoints and two journals.
 fn over_files(alloc: Global, files: [&[u8]; 4]) -> Result<Status, Fail> {
     let [
@@ -133,10 +145,10 @@ fn over_files(alloc: Global, files: [&[u8]; 4]) -> Result<Status, Fail> {
         second_journal,
     ] = files;
     let files = [
-        Bytes::from_slice(alloc, first_checkpoint)?,
-        Bytes::from_slice(alloc, second_checkpoint)?,
-        Bytes::from_slice(alloc, first_journal)?,
-        Bytes::from_slice(alloc, second_journal)?,
+        file(alloc, first_checkpoint)?,
+        file(alloc, second_checkpoint)?,
+        file(alloc, first_journal)?,
+        file(alloc, second_journal)?,
     ];
     let mut disk = MemoryDisk::with_files(alloc, files);
     let (status, _) = replayed(alloc, KEYS, b"O 1\n", Failing::Nothing, &mut disk)?;
