@@ -133,16 +133,25 @@ fn value_answered(alloc: Global, value: &str) -> Result<String, Fail> {
 }
 
 #[test]
-fn what_is_put_is_answered(rt: HostRuntime) -> Result<(), Fail> {
-    let output = answered(rt.alloc(), SESSION)?;
-    assert_eq!(rt; output.written(), SESSION_ANSWERS);
-    Ok(())
-}
-
-#[test]
-fn domains_are_listed_and_described(rt: HostRuntime) -> Result<(), Fail> {
-    let output = answered(rt.alloc(), DOMAINS)?;
-    assert_eq!(rt; output.written(), DOMAINS_ANSWERS);
+fn sessions_are_answered(rt: HostRuntime) -> Result<(), Fail> {
+    let cases = [
+        (SESSION, SESSION_ANSWERS),
+        (DOMAINS, DOMAINS_ANSWERS),
+        (BOOKS, BOOKS_ANSWER),
+        (b"".as_slice(), b"".as_slice()),
+        (
+            b"Action=Fly",
+            b"<?xml version=\"1.0\"?>\n<Response><Errors><Error><Code>InvalidAction</Code><Message>The action is not valid.</Message><BoxUsage>0.0000001000</BoxUsage></Error></Errors><RequestID>00000000-0000-0000-0000-000000000001</RequestID></Response>\n",
+        ),
+        (
+            b"Action=GetAttributes&DomainName=none&ItemName=i\n",
+            b"<?xml version=\"1.0\"?>\n<Response><Errors><Error><Code>NoSuchDomain</Code><Message>The specified domain does not exist.</Message><BoxUsage>0.0000001000</BoxUsage></Error></Errors><RequestID>00000000-0000-0000-0000-000000000001</RequestID></Response>\n",
+        ),
+    ];
+    for (input, answers) in cases {
+        let output = answered(rt.alloc(), input)?;
+        assert_eq!(rt; output.written(), answers);
+    }
     Ok(())
 }
 
@@ -162,17 +171,7 @@ fn values_are_escaped(rt: HostRuntime) -> Result<(), Fail> {
 }
 
 #[test]
-fn an_absent_domain_is_refused_and_an_absent_item_has_no_pairs(
-    rt: HostRuntime,
-) -> Result<(), Fail> {
-    let output = answered(
-        rt.alloc(),
-        b"Action=GetAttributes&DomainName=none&ItemName=i\n",
-    )?;
-    assert_eq!(rt;
-        output.written(),
-        b"<?xml version=\"1.0\"?>\n<Response><Errors><Error><Code>NoSuchDomain</Code><Message>The specified domain does not exist.</Message><BoxUsage>0.0000001000</BoxUsage></Error></Errors><RequestID>00000000-0000-0000-0000-000000000001</RequestID></Response>\n".as_slice()
-    );
+fn an_absent_item_has_no_pairs(rt: HostRuntime) -> Result<(), Fail> {
     let output = answered(
         rt.alloc(),
         b"Action=CreateDomain&DomainName=books\nAction=GetAttributes&DomainName=books&ItemName=i",
@@ -182,15 +181,6 @@ fn an_absent_domain_is_refused_and_an_absent_item_has_no_pairs(
             b"<GetAttributesResult></GetAttributesResult><ResponseMetadata><RequestId>00000000-0000-0000-0000-000000000002</RequestId><BoxUsage>0.0000001000</BoxUsage></ResponseMetadata></GetAttributesResponse>\n"
         )
     );
-    Ok(())
-}
-
-#[test]
-fn create_domain_is_answered(rt: HostRuntime) -> Result<(), Fail> {
-    let output = answered(rt.alloc(), BOOKS)?;
-    assert_eq!(rt; output.written(), BOOKS_ANSWER);
-    let output = answered(rt.alloc(), b"")?;
-    assert_eq!(rt; output.written(), b"".as_slice());
     Ok(())
 }
 
@@ -259,16 +249,6 @@ fn refused_lines_have_their_codes(rt: HostRuntime) -> Result<(), Fail> {
     for (line, code) in cases {
         assert_eq!(rt; code_of(&last_answer(rt.alloc(), line)?), code, "{line}");
     }
-    Ok(())
-}
-
-#[test]
-fn a_refusal_has_its_message(rt: HostRuntime) -> Result<(), Fail> {
-    let output = answered(rt.alloc(), b"Action=Fly")?;
-    assert_eq!(rt;
-        output.written(),
-        b"<?xml version=\"1.0\"?>\n<Response><Errors><Error><Code>InvalidAction</Code><Message>The action is not valid.</Message><BoxUsage>0.0000001000</BoxUsage></Error></Errors><RequestID>00000000-0000-0000-0000-000000000001</RequestID></Response>\n".as_slice()
-    );
     Ok(())
 }
 
