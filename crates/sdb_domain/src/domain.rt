@@ -12,12 +12,12 @@ ghost use Rattle.sdb_domain.specs.Rows.{seen_row};
 ghost use Rattle.sdb_domain.specs.Weights.{domain_weight, pair_count};
 
 use crate::held::Held;
+use crate::items::Items;
 use crate::metadata::Metadata;
 use crate::row::Row;
 use sdb_base::{OutOfMemory, Steps, Text};
 use sdb_pairs::Item;
 use std::alloc::Global;
-use std::collections::btree_map::Range;
 use std::fmt;
 use std::marker::Model;
 
@@ -83,12 +83,16 @@ impl Domain {
         self.held.scan(after)
     }
 
-    /// All items, in their order. Whoever walks them counts the steps. Takes no memory.
-    pub fn items(&self) -> Range<'_, Text, Item>
+    /// All items, lent one after the other in their order. Counts one step for each. Takes no memory.
+    pub fn items<L>(&self, items: &mut Steps<L>) -> Items<'_>
         ensures items { result ≡ self.now }
+        ensures ticks { items.new ≡ items.old + length self.now }
         ensures in_order { AreItems self.now }
     {
-        self.held.items()
+        for _place in 0..self.held.item_count() {
+            items.tick();
+        }
+        Items::of(self.held.items())
     }
 
     /// All items in their order, by one walk. Counts one step for each; where memory is wanting it may have met fewer.

@@ -5,6 +5,7 @@ mod account;
 mod accounts;
 mod domain;
 mod held;
+mod items;
 mod keyed;
 mod laws;
 mod metadata;
@@ -16,6 +17,7 @@ mod sums;
 
 pub use accounts::Accounts;
 pub use domain::Domain;
+pub use items::Items;
 pub use laws::walks_give_all;
 pub use metadata::Metadata;
 pub use row::Row;

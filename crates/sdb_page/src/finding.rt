@@ -13,7 +13,7 @@ use crate::passing::passing;
 use sdb_base::{OutOfMemory, Steps, Text};
 use sdb_domain::{Domain, Row};
 use sdb_parse::{Expr, Operand, Test};
-use sdb_pred::some_fits;
+use sdb_pred::has_value_that_fits;
 use std::alloc::Global;
 
 // The items that hold a condition, in the order of their names.
@@ -76,9 +76,8 @@ fn scan_fitting<'a, L>(
     ensures in_order { AreItems domain.now }
 {
     let mut rows = Vec::new(alloc);
-    for (name, item) in domain.items() {
-        items.tick();
-        if some_fits(test, item.values(attr)) {
+    for (name, item) in domain.items(items) {
+        if has_value_that_fits(test, attr, item) {
             rows.push(Row { name, item })?;
         }
     }

@@ -1,7 +1,8 @@
 -- The part of one name, looked for pair by pair.
-use Rattle.std.proofs.Common.{◌≡◌, ℕ, zero, suc, ◌+◌, ◌<◌, ◌≤◌, Bool, true, false, not, List, [], ◌∷◌, ◌++◌, length, get_or, take, drop, filter, is_lt, refl, sym, ap, ◌∙◌, subst, arith, true≢false, length-drop, length-take, get_or-drop, get_or-take, take-append-drop, append-nil}
+use Rattle.std.proofs.Common.{◌≡◌, ℕ, zero, suc, ◌+◌, ◌<◌, ◌≤◌, Bool, true, false, not, ◌&&◌, ◌||◌, cond, List, [], ◌∷◌, ◌++◌, length, get_or, take, drop, filter, is_lt, refl, sym, ap, ap₂, ◌∙◌, subst, arith, true≢false, length-drop, length-take, get_or-drop, get_or-take, take-append-drop, append-nil}
 use Rattle.std.specs.Cmp.{Equal-is}
 use Rattle.std.specs.Cmp.Lexicographic.{texts_ties}
+use Rattle.std.specs.List.{list_any}
 use Rattle.std.specs.List.Sorted.{IsStrictlySortedBy}
 use Rattle.std.proofs.lemmas.List.{get_or_default}
 use Rattle.std.proofs.lemmas.List.Elements.{filter-append}
@@ -10,11 +11,26 @@ use Rattle.sdb_base.proofs.Cases.{by_bool}
 use Rattle.sdb_base.proofs.KeyLemmas.{each_from_places, filter_all, filter_none}
 use Rattle.sdb_pairs.specs.declared.pair.Pair.{Pair}
 use Rattle.sdb_pairs.specs.Pairs.{pair_cmp, is_named, part_named}
+use Rattle.sdb_pairs.proofs.EditLemmas.{and_true}
 use Rattle.sdb_pairs.proofs.PairLemmas.{is_below, parted_below, parted_named}
+
+and_false : (a : Bool) → (a && false) ≡ false
+and_false true = refl
+and_false false = refl
 
 pub not_true : (b : Bool) → not b ≡ true → b ≡ false
 not_true true is = absurd (true≢false (sym is))
 not_true false is = refl
+
+-- a test of the first that passes another, or of the others
+first_of_part : (p : Pair → Bool) (passes : Bool) (first : Pair) (part : List Pair) (others : Bool) → others ≡ list_any p part → ((p first && passes) || others) ≡ list_any p (cond passes (first ∷ part) part)
+first_of_part p true first part others is = ap₂ (λ a b. a || b) (sym (and_true (p first))) is
+first_of_part p false first part others is = ap (λ a. a || others) (and_false (p first)) ∙ is
+
+-- both tests of the pairs, or one of those that pass the other
+pub any_of_part : (p passes : Pair → Bool) (pairs : List Pair) → list_any (λ q. p q && passes q) pairs ≡ list_any p (filter passes pairs)
+any_of_part p passes [] = refl
+any_of_part p passes (first ∷ others) = first_of_part p (passes first) first (filter passes others) (list_any (λ q. p q && passes q) others) (any_of_part p passes others)
 
 -- what stands behind a front rises
 pub rising_behind : (place : ℕ) (pairs : List Pair) → IsStrictlySortedBy pair_cmp pairs → IsStrictlySortedBy pair_cmp (drop place pairs)

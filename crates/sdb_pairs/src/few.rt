@@ -1,5 +1,6 @@
 // The pairs of one name among a few, whose names are compared one after the other.
-ghost use Rattle.std.specs.Prelude.{◌≡◌, true, slice_index_or};
+ghost use Rattle.std.specs.Prelude.{◌≡◌, ◌&&◌, true, bytes_eq, slice_index_or};
+ghost use Rattle.std.specs.List.{list_any};
 ghost use Rattle.std.specs.List.Sorted.{IsStrictlySortedBy};
 ghost use Rattle.sdb_pairs.specs.Pairs.{pair_cmp, is_named, part_named};
 ghost use Rattle.sdb_pairs.specs.declared.pair.Pair.{Pair};
@@ -32,4 +33,16 @@ fn front_named<'a>(pairs: &'a [Pair], name: &Text) -> &'a [Pair]
         }
     }
     pairs
+}
+
+// Whether one of the pairs has that name and that value. Values are compared first, since they differ more often.
+pub(crate) fn few_have(pairs: &[Pair], name: &Text, value: &Text) -> bool
+    ensures { result ≡ list_any (λ p. bytes_eq p.value value.now && is_named name.now p) pairs.now }
+{
+    for pair in pairs {
+        if pair.value == *value && pair.name == *name {
+            return true;
+        }
+    }
+    false
 }

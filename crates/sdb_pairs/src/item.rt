@@ -1,10 +1,10 @@
 // Items: sets of pairs in order.
-ghost use Rattle.std.specs.Prelude.{◌≡◌, ◌≤◌, not, [], length, slice_range, filter, IfOk, OnOk, OnErr};
-ghost use Rattle.std.specs.List.{remove_range};
+ghost use Rattle.std.specs.Prelude.{◌≡◌, ◌≤◌, not, [], bytes_eq, length, slice_range, filter, IfOk, OnOk, OnErr};
+ghost use Rattle.std.specs.List.{list_any, remove_range};
 ghost use Rattle.std.specs.List.Sorted.{IsStrictlySortedBy};
 ghost use Rattle.sdb_pairs.specs.Pairs.{pair_cmp, is_named, part_named};
 
-use crate::few::few_named;
+use crate::few::{few_have, few_named};
 use crate::op::Op;
 use crate::pair::Pair;
 use sdb_base::{OutOfMemory, Text};
@@ -65,6 +65,17 @@ impl Item {
         &pairs[start..end]
     }
 
+    /// Whether the item has a pair of that name and that value. It takes no memory.
+    pub fn has(&self, name: &Text, value: &Text) -> bool
+        ensures { result ≡ list_any (λ p. bytes_eq p.value value.now) (part_named name.now self.now) }
+    {
+        let pairs = self.pairs.as_slice();
+        if pairs.len() <= FEW {
+            return few_have(pairs, name, value);
+        }
+        one_has_value(self.values(name), value)
+    }
+
     // A second item of the same pairs, with room for so many.
     pub(crate) fn copy(&self, alloc: Global, room: usize) -> Result<Item, OutOfMemory>
         ensures { IfOk result (λ copied. copied ≡ self.now) }
@@ -115,6 +126,18 @@ impl Item {
         let (start, end) = span_of(self.pairs.as_slice(), name);
         self.pairs.drain(start..end);
     }
+}
+
+// Whether one of the pairs has that value.
+fn one_has_value(pairs: &[Pair], value: &Text) -> bool
+    ensures { result ≡ list_any (λ p. bytes_eq p.value value.now) pairs.now }
+{
+    for pair in pairs {
+        if pair.value == *value {
+            return true;
+        }
+    }
+    false
 }
 
 // Where the part with that name begins, and where it ends.

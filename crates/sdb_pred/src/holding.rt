@@ -149,8 +149,8 @@ pub(crate) fn is_absent(pairs: &[Pair]) -> bool
     }
 }
 
-/// Whether the value of one of the pairs passes a test. It takes no memory.
-pub fn some_fits(test: &Test, pairs: &[Pair]) -> bool
+// Whether the value of one of the pairs passes a test.
+pub(crate) fn some_fits(test: &Test, pairs: &[Pair]) -> bool
     ensures { result ≡ list_any (λ p. fits test.now p.value) pairs.now }
 {
     for pair in pairs {

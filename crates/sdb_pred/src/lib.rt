@@ -8,8 +8,8 @@ mod needing;
 
 pub use asking::asks;
 pub use attr::sole;
-pub use holding::{holds, some_fits};
-pub use needing::{can_hold, has_value_for_all, has_value_for_some};
+pub use holding::holds;
+pub use needing::{can_hold, has_value_for_all, has_value_for_some, has_value_that_fits};
 
 #[cfg(test)]
 mod tests;

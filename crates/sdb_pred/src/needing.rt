@@ -1,6 +1,7 @@
 // What an item has to answer so that it can hold a condition.
 ghost use Rattle.std.specs.Prelude.{◌≡◌, [], map};
 ghost use Rattle.sdb_parse.specs.declared.expr.Operand.TheVariants as operand;
+ghost use Rattle.sdb_parse.specs.Fits.{fits};
 ghost use Rattle.sdb_parse.specs.Meaning.{absence_of, asks, attr_needs, has_value, meaning, names_items, predicate_needs, together};
 ghost use Rattle.std.specs.List.{list_any};
 ghost use Rattle.sdb_pred.specs.Items.{values_in};
@@ -36,6 +37,17 @@ pub fn has_value_for_some(members: &[Expr], attr: &Text, item: &Item) -> bool
     ensures { result ≡ has_value attr.now (λ value. list_any (λ m. m.asks value) (map meaning members.now)) [] (values_in item.now) }
 {
     some_value_is_asked(members, item.values(attr))
+}
+
+/// Whether a value of the attribute passes the test. It takes no memory.
+#[tactic(auto, using(crate::proofs::LoopLemmas::of_values))]
+pub fn has_value_that_fits(test: &Test, attr: &Text, item: &Item) -> bool
+    ensures { result ≡ has_value attr.now (fits test.now) [] (values_in item.now) }
+{
+    match test {
+        Test::Eq(wanted) => item.has(attr, wanted),
+        _ => some_fits(test, item.values(attr)),
+    }
 }
 
 // Whether a value, in these pairs, is asked for by one of the members.
