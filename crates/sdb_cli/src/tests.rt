@@ -8,6 +8,7 @@ use sdb_io::{
     Source,
 };
 use std::alloc::Global;
+use std::process::Abort;
 use std::test::Fail;
 
 const BOOKS: &[u8] = b"Action=CreateDomain&DomainName=books\n";
@@ -133,16 +134,25 @@ fn value_answered(alloc: Global, value: &str) -> Result<String, Fail> {
 }
 
 #[test]
-fn what_is_put_is_answered(rt: HostRuntime) -> Result<(), Fail> {
-    let output = answered(rt.alloc(), SESSION)?;
-    assert_eq!(rt; output.written(), SESSION_ANSWERS);
-    Ok(())
-}
-
-#[test]
-fn domains_are_listed_and_described(rt: HostRuntime) -> Result<(), Fail> {
-    let output = answered(rt.alloc(), DOMAINS)?;
-    assert_eq!(rt; output.written(), DOMAINS_ANSWERS);
+fn sessions_are_answered(rt: HostRuntime) -> Result<(), Fail> {
+    let cases = [
+        (SESSION, SESSION_ANSWERS),
+        (DOMAINS, DOMAINS_ANSWERS),
+        (BOOKS, BOOKS_ANSWER),
+        (b"".as_slice(), b"".as_slice()),
+        (
+            b"Action=Fly",
+            b"<?xml version=\"1.0\"?>\n<Response><Errors><Error><Code>InvalidAction</Code><Message>The action is not valid.</Message><BoxUsage>0.0000001000</BoxUsage></Error></Errors><RequestID>00000000-0000-0000-0000-000000000001</RequestID></Response>\n",
+        ),
+        (
+            b"Action=GetAttributes&DomainName=none&ItemName=i\n",
+            b"<?xml version=\"1.0\"?>\n<Response><Errors><Error><Code>NoSuchDomain</Code><Message>The specified domain does not exist.</Message><BoxUsage>0.0000001000</BoxUsage></Error></Errors><RequestID>00000000-0000-0000-0000-000000000001</RequestID></Response>\n",
+        ),
+    ];
+    for (input, answers) in cases {
+        let output = answered(rt.alloc(), input)?;
+        assert_eq!(rt; output.written(), answers);
+    }
     Ok(())
 }
 
@@ -158,39 +168,6 @@ fn values_are_escaped(rt: HostRuntime) -> Result<(), Fail> {
     for (value, element) in cases {
         assert_eq!(rt; value_answered(rt.alloc(), value)?.as_str(), element);
     }
-    Ok(())
-}
-
-#[test]
-fn an_absent_domain_is_refused_and_an_absent_item_has_no_pairs(
-    rt: HostRuntime,
-) -> Result<(), Fail> {
-    let output = answered(
-        rt.alloc(),
-        b"Action=GetAttributes&DomainName=none&ItemName=i\n",
-    )?;
-    assert_eq!(rt;
-        output.written(),
-        b"<?xml version=\"1.0\"?>\n<Response><Errors><Error><Code>NoSuchDomain</Code><Message>The specified domain does not exist.</Message><BoxUsage>0.0000001000</BoxUsage></Error></Errors><RequestID>00000000-0000-0000-0000-000000000001</RequestID></Response>\n".as_slice()
-    );
-    let output = answered(
-        rt.alloc(),
-        b"Action=CreateDomain&DomainName=books\nAction=GetAttributes&DomainName=books&ItemName=i",
-    )?;
-    assert!(rt;
-        output.written().ends_with(
-            b"<GetAttributesResult></GetAttributesResult><ResponseMetadata><RequestId>00000000-0000-0000-0000-000000000002</RequestId><BoxUsage>0.0000001000</BoxUsage></ResponseMetadata></GetAttributesResponse>\n"
-        )
-    );
-    Ok(())
-}
-
-#[test]
-fn create_domain_is_answered(rt: HostRuntime) -> Result<(), Fail> {
-    let output = answered(rt.alloc(), BOOKS)?;
-    assert_eq!(rt; output.written(), BOOKS_ANSWER);
-    let output = answered(rt.alloc(), b"")?;
-    assert_eq!(rt; output.written(), b"".as_slice());
     Ok(())
 }
 
@@ -221,6 +198,30 @@ pub(crate) fn last_answer(alloc: Global, lines: &str) -> Result<String, Fail> {
     let text = std::str::from_utf8(output.written())?;
     let (_, answer) = text.rsplit_once("<?xml").ok_or("no answer")?;
     Ok(String::from_str(alloc, answer)?)
+}
+
+// The last answer to the lines has each of these parts.
+pub(crate) fn shows(
+    rt: &(impl Abort + AllocGlobal),
+    lines: &str,
+    parts: &[&str],
+) -> Result<(), Fail> {
+    let answer = last_answer(rt.alloc(), lines)?;
+    for part in parts {
+        assert!(rt; answer.as_str().contains(*part), "{part}");
+    }
+    Ok(())
+}
+
+// The last answer to the lines is a refusal of that code, or `done`.
+pub(crate) fn is_refused(
+    rt: &(impl Abort + AllocGlobal),
+    lines: &str,
+    code: &str,
+) -> Result<(), Fail> {
+    let answer = last_answer(rt.alloc(), lines)?;
+    assert_eq!(rt; code_of(answer.as_str()), code);
+    Ok(())
 }
 
 #[test]
@@ -257,63 +258,66 @@ fn refused_lines_have_their_codes(rt: HostRuntime) -> Result<(), Fail> {
         ("a=%FF&Action=Fly", "InvalidParameterValue"),
     ];
     for (line, code) in cases {
-        assert_eq!(rt; code_of(&last_answer(rt.alloc(), line)?), code, "{line}");
+        is_refused(&rt, line, code)?;
     }
-    Ok(())
-}
-
-#[test]
-fn a_refusal_has_its_message(rt: HostRuntime) -> Result<(), Fail> {
-    let output = answered(rt.alloc(), b"Action=Fly")?;
-    assert_eq!(rt;
-        output.written(),
-        b"<?xml version=\"1.0\"?>\n<Response><Errors><Error><Code>InvalidAction</Code><Message>The action is not valid.</Message><BoxUsage>0.0000001000</BoxUsage></Error></Errors><RequestID>00000000-0000-0000-0000-000000000001</RequestID></Response>\n".as_slice()
-    );
     Ok(())
 }
 
 const BOOK: &str =
     "Action=CreateDomain&DomainName=books\nAction=PutAttributes&DomainName=books&ItemName=i&Attribute.1.Name=title&Attribute.1.Value=A&Attribute.2.Name=title&Attribute.2.Value=B&Attribute.3.Name=year&Attribute.3.Value=1990\n";
 
-// The answer to one more line after those that make the book.
-fn after_book(alloc: Global, line: &str) -> Result<String, Fail> {
-    last_answer(alloc, &format!(in alloc; "{BOOK}{line}")?)
-}
+const REPLACE: &str =
+    "Action=PutAttributes&DomainName=books&ItemName=i&Attribute.1.Name=title&Attribute.1.Value=C&Attribute.1.Replace=true&Attribute.2.Name=title&Attribute.2.Value=A&Attribute.3.Name=year&Attribute.3.Value=1990";
+
+const DELETE: &str =
+    "Action=DeleteAttributes&DomainName=books&ItemName=i&Attribute.0.Name=title&Attribute.1.Name=year&Attribute.1.Value=1990";
+
+const GET: &str = "\nAction=GetAttributes&DomainName=books&ItemName=i";
 
 #[test]
-fn replaced_values_go_before_any_is_added(rt: HostRuntime) -> Result<(), Fail> {
-    let put =
-        "Action=PutAttributes&DomainName=books&ItemName=i&Attribute.1.Name=title&Attribute.1.Value=C&Attribute.1.Replace=true&Attribute.2.Name=title&Attribute.2.Value=A&Attribute.3.Name=year&Attribute.3.Value=1990";
-    let answer = after_book(rt.alloc(), put)?;
-    assert!(rt;
-        answer
-            .as_str()
-            .contains("<BoxUsage>0.0000002600</BoxUsage>")
-    );
-    let got = after_book(
-        rt.alloc(),
-        &format!(in rt.alloc(); "{put}\nAction=GetAttributes&DomainName=books&ItemName=i")?,
-    )?;
-    assert!(rt;
-        got.as_str().contains(
-            "<GetAttributesResult><Attribute><Name>title</Name><Value>A</Value></Attribute><Attribute><Name>title</Name><Value>C</Value></Attribute><Attribute><Name>year</Name><Value>1990</Value></Attribute></GetAttributesResult><ResponseMetadata><RequestId>00000000-0000-0000-0000-000000000004</RequestId><BoxUsage>0.0000001150</BoxUsage>"
-        )
-    );
-    Ok(())
-}
-
-#[test]
-fn a_get_with_names_answers_those_alone(rt: HostRuntime) -> Result<(), Fail> {
-    let got = after_book(
-        rt.alloc(),
-        "Action=GetAttributes&DomainName=books&ItemName=i&AttributeName.3=year&AttributeName=none",
-    )?;
-    assert!(rt;
-        got.as_str().contains(
-            "<GetAttributesResult><Attribute><Name>year</Name><Value>1990</Value></Attribute></GetAttributesResult>"
-        )
-    );
-    assert!(rt; got.as_str().contains("<BoxUsage>0.0000001050</BoxUsage>"));
+fn a_book_is_read_and_what_is_replaced_or_deleted_is_gone(rt: HostRuntime) -> Result<(), Fail> {
+    for (line, get, part) in [
+        (REPLACE, "", "<BoxUsage>0.0000002600</BoxUsage>"),
+        (
+            REPLACE,
+            GET,
+            "<GetAttributesResult><Attribute><Name>title</Name><Value>A</Value></Attribute><Attribute><Name>title</Name><Value>C</Value></Attribute><Attribute><Name>year</Name><Value>1990</Value></Attribute></GetAttributesResult><ResponseMetadata><RequestId>00000000-0000-0000-0000-000000000004</RequestId><BoxUsage>0.0000001150</BoxUsage>",
+        ),
+        (
+            "Action=GetAttributes&DomainName=books&ItemName=i&AttributeName.3=year&AttributeName=none",
+            "",
+            "<GetAttributesResult><Attribute><Name>year</Name><Value>1990</Value></Attribute></GetAttributesResult><ResponseMetadata><RequestId>00000000-0000-0000-0000-000000000003</RequestId><BoxUsage>0.0000001050</BoxUsage>",
+        ),
+        (
+            "Action=GetAttributes&DomainName=books&ItemName=none",
+            "",
+            "<GetAttributesResult></GetAttributesResult><ResponseMetadata><RequestId>00000000-0000-0000-0000-000000000003</RequestId><BoxUsage>0.0000001000</BoxUsage></ResponseMetadata></GetAttributesResponse>\n",
+        ),
+        (
+            "Action=DeleteAttributes&DomainName=books&ItemName=none",
+            "",
+            "<DeleteAttributesResponse xmlns=\"http://sdb.amazonaws.com/doc/2009-04-15/\"><ResponseMetadata><RequestId>00000000-0000-0000-0000-000000000003</RequestId><BoxUsage>0.0000002000</BoxUsage>",
+        ),
+        (DELETE, GET, "<GetAttributesResult></GetAttributesResult>"),
+        (
+            "Action=DeleteAttributes&DomainName=none&ItemName=i",
+            "",
+            "<Code>NoSuchDomain</Code>",
+        ),
+        (
+            "Action=DeleteDomain&DomainName=none",
+            "",
+            "<DeleteDomainResponse",
+        ),
+        (
+            "Action=DeleteDomain&DomainName=books",
+            GET,
+            "<Code>NoSuchDomain</Code>",
+        ),
+    ] {
+        let lines = format!(in rt.alloc(); "{BOOK}{line}{get}")?;
+        shows(&rt, lines.as_str(), &[part])?;
+    }
     Ok(())
 }
 
@@ -343,57 +347,14 @@ fn expectations_have_their_answers(rt: HostRuntime) -> Result<(), Fail> {
         let put = format!(in rt.alloc();
             "{EXPECTED}Action=PutAttributes&DomainName=books&ItemName=i&Attribute.1.Name=new&Attribute.1.Value=v&Expected.1.{expected}"
         )?;
-        assert_eq!(rt;
-            code_of(&last_answer(rt.alloc(), &put)?),
-            code,
-            "{expected}"
-        );
-        let got = last_answer(
-            rt.alloc(),
-            &format!(in rt.alloc();
-                "{put}\nAction=GetAttributes&DomainName=books&ItemName=i&AttributeName=new"
-            )?,
-        )?;
-        assert_eq!(rt;
-            got.as_str().contains("<Value>v</Value>"),
-            code == "done",
-            "{expected}"
-        );
-    }
-    Ok(())
-}
-
-#[test]
-fn what_is_deleted_is_gone(rt: HostRuntime) -> Result<(), Fail> {
-    let absent = after_book(
-        rt.alloc(),
-        "Action=DeleteAttributes&DomainName=books&ItemName=none",
-    )?;
-    assert!(rt;
-        absent.as_str().contains(
-            "<DeleteAttributesResponse xmlns=\"http://sdb.amazonaws.com/doc/2009-04-15/\"><ResponseMetadata><RequestId>00000000-0000-0000-0000-000000000003</RequestId><BoxUsage>0.0000002000</BoxUsage>"
-        )
-    );
-    let got = after_book(
-        rt.alloc(),
-        "Action=DeleteAttributes&DomainName=books&ItemName=i&Attribute.0.Name=title&Attribute.1.Name=year&Attribute.1.Value=1990\nAction=GetAttributes&DomainName=books&ItemName=i",
-    )?;
-    assert!(rt;
-        got.as_str()
-            .contains("<GetAttributesResult></GetAttributesResult>")
-    );
-    for (line, code) in [
-        ("Action=DeleteDomain&DomainName=none", "done"),
-        (
-            "Action=DeleteAttributes&DomainName=none&ItemName=i",
-            "NoSuchDomain",
-        ),
-        (
-            "Action=DeleteDomain&DomainName=books\nAction=GetAttributes&DomainName=books&ItemName=i",
-            "NoSuchDomain",
-        ),
-    ] {
-        assert_eq!(rt; code_of(&after_book(rt.alloc(), line)?), code, "{line}");
+        is_refused(&rt, &put, code)?;
+        let part = if code == "done" {
+            "<Value>v</Value>"
+        } else {
+            "<GetAttributesResult></GetAttributesResult>"
+        };
+        let get = format!(in rt.alloc(); "{put}{GET}&AttributeName=new")?;
+        shows(&rt, &get, &[part])?;
     }
     Ok(())
 }
@@ -417,15 +378,15 @@ fn a_line_past_the_limit_is_too_long(rt: HostRuntime) -> Result<(), Fail> {
 
 #[test]
 fn faults_have_their_statuses(rt: HostRuntime) -> Result<(), Fail> {
-    let (status, output) = ran(rt.alloc(), &["bare"], BOOKS, [true, false])?;
-    assert_eq!(rt; status.number(), 2);
-    assert_eq!(rt; output.written(), b"".as_slice());
-    let (status, _) = ran(rt.alloc(), &["bare"], BOOKS, [false, true])?;
-    assert_eq!(rt; status.number(), 4);
-    assert_eq!(rt;
-        status.to_string(rt.alloc())?.as_str(),
-        "sdb: writing failed"
-    );
+    for (fails, wanted) in [
+        ([true, false], "2 sdb: reading failed"),
+        ([false, true], "4 sdb: writing failed"),
+    ] {
+        let (status, output) = ran(rt.alloc(), &["bare"], BOOKS, fails)?;
+        let told = format!(in rt.alloc(); "{} {status}", status.number())?;
+        assert_eq!(rt; told.as_str(), wanted);
+        assert_eq!(rt; output.written(), b"".as_slice());
+    }
     Ok(())
 }
 

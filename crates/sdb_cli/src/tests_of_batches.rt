@@ -1,5 +1,5 @@
 // Tests of batches over lines.
-use crate::tests::{code_of, last_answer};
+use crate::tests::{is_refused, shows};
 use std::alloc::Global;
 use std::fmt::Write;
 use std::test::Fail;
@@ -31,45 +31,35 @@ fn batch_of(alloc: Global, count: usize) -> Result<String, Fail> {
 #[test]
 fn a_batch_puts_up_to_25_items(rt: HostRuntime) -> Result<(), Fail> {
     let mut lines = batch_of(rt.alloc(), 25)?;
-    let answer = last_answer(rt.alloc(), lines.as_str())?;
-    assert!(rt; answer.as_str().contains("<BatchPutAttributesResponse"));
-    assert!(rt;
-        answer
-            .as_str()
-            .contains("<BoxUsage>0.0000019500</BoxUsage>")
-    );
+    let parts = [
+        "<BatchPutAttributesResponse",
+        "<BoxUsage>0.0000019500</BoxUsage>",
+    ];
+    shows(&rt, lines.as_str(), &parts)?;
     write!(&mut lines, "{GET}i24")?;
-    let got = last_answer(rt.alloc(), lines.as_str())?;
-    assert!(rt;
-        got.as_str()
-            .contains("<Attribute><Name>a</Name><Value>x</Value></Attribute>")
-    );
+    let pair = "<Attribute><Name>a</Name><Value>x</Value></Attribute>";
+    shows(&rt, lines.as_str(), &[pair])?;
     let more = batch_of(rt.alloc(), 26)?;
-    assert_eq!(rt;
-        code_of(&last_answer(rt.alloc(), more.as_str())?),
-        "NumberSubmittedItemsExceeded"
-    );
-    Ok(())
+    is_refused(&rt, more.as_str(), "NumberSubmittedItemsExceeded")
 }
 
 #[test]
-fn a_batch_of_an_item_named_twice_is_refused(rt: HostRuntime) -> Result<(), Fail> {
-    let mut lines = batch_of(rt.alloc(), 2)?;
-    lines.push_str("&Item.9.ItemName=i1&Item.9.Attribute.1.Name=b&Item.9.Attribute.1.Value=y")?;
-    assert_eq!(rt;
-        code_of(&last_answer(rt.alloc(), lines.as_str())?),
-        "DuplicateItemName"
-    );
-    Ok(())
-}
-
-#[test]
-fn a_batch_in_an_absent_domain_is_refused(rt: HostRuntime) -> Result<(), Fail> {
-    for line in [
-        "Action=BatchPutAttributes&DomainName=books&Item.1.ItemName=i&Item.1.Attribute.1.Name=a&Item.1.Attribute.1.Value=x",
-        "Action=BatchDeleteAttributes&DomainName=books&Item.1.ItemName=i",
+fn batches_are_refused(rt: HostRuntime) -> Result<(), Fail> {
+    for (line, code) in [
+        (
+            "Action=BatchPutAttributes&DomainName=books&Item.1.ItemName=i&Item.1.Attribute.1.Name=a&Item.1.Attribute.1.Value=x",
+            "NoSuchDomain",
+        ),
+        (
+            "Action=BatchDeleteAttributes&DomainName=books&Item.1.ItemName=i",
+            "NoSuchDomain",
+        ),
+        (
+            "Action=CreateDomain&DomainName=books\nAction=BatchPutAttributes&DomainName=books&Item.1.ItemName=i&Item.1.Attribute.1.Name=a&Item.1.Attribute.1.Value=x&Item.9.ItemName=i&Item.9.Attribute.1.Name=b&Item.9.Attribute.1.Value=y",
+            "DuplicateItemName",
+        ),
     ] {
-        assert_eq!(rt; code_of(&last_answer(rt.alloc(), line)?), "NoSuchDomain");
+        is_refused(&rt, line, code)?;
     }
     Ok(())
 }
@@ -96,17 +86,10 @@ fn batch_above_a_limit(alloc: Global) -> Result<String, Fail> {
 #[test]
 fn a_batch_whose_last_item_is_too_large_puts_none(rt: HostRuntime) -> Result<(), Fail> {
     let mut lines = batch_above_a_limit(rt.alloc())?;
-    assert_eq!(rt;
-        code_of(&last_answer(rt.alloc(), lines.as_str())?),
-        "NumberItemAttributesExceeded"
-    );
+    is_refused(&rt, lines.as_str(), "NumberItemAttributesExceeded")?;
     write!(&mut lines, "{GET}i0")?;
-    let got = last_answer(rt.alloc(), lines.as_str())?;
-    assert!(rt;
-        got.as_str()
-            .contains("<GetAttributesResult></GetAttributesResult>")
-    );
-    Ok(())
+    let nothing = "<GetAttributesResult></GetAttributesResult>";
+    shows(&rt, lines.as_str(), &[nothing])
 }
 
 #[test]
@@ -115,23 +98,18 @@ fn a_batch_deletes_parts_and_whole_items(rt: HostRuntime) -> Result<(), Fail> {
     lines.push_str(
         "\nAction=BatchDeleteAttributes&DomainName=books&Item.1.ItemName=i0&Item.2.ItemName=i1&Item.2.Attribute.1.Name=a&Item.2.Attribute.1.Value=y",
     )?;
-    let answer = last_answer(rt.alloc(), lines.as_str())?;
-    assert!(rt; answer.as_str().contains("<BatchDeleteAttributesResponse"));
-    assert!(rt;
-        answer
-            .as_str()
-            .contains("<BoxUsage>0.0000003200</BoxUsage>")
-    );
-    for (item, is_there) in [("i0", false), ("i1", true), ("i2", true)] {
-        let got = last_answer(
-            rt.alloc(),
-            &format!(in rt.alloc(); "{}{GET}{item}", lines.as_str())?,
-        )?;
-        assert_eq!(rt;
-            got.as_str().contains("<Value>x</Value>"),
-            is_there,
-            "{item}"
-        );
+    let parts = [
+        "<BatchDeleteAttributesResponse",
+        "<BoxUsage>0.0000003200</BoxUsage>",
+    ];
+    shows(&rt, lines.as_str(), &parts)?;
+    for (item, part) in [
+        ("i0", "<GetAttributesResult></GetAttributesResult>"),
+        ("i1", "<Value>x</Value>"),
+        ("i2", "<Value>x</Value>"),
+    ] {
+        let get = format!(in rt.alloc(); "{}{GET}{item}", lines.as_str())?;
+        shows(&rt, get.as_str(), &[part])?;
     }
     Ok(())
 }

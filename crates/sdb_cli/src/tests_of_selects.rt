@@ -1,6 +1,7 @@
 // Tests of Selects as lines.
 use crate::tests::{code_of, last_answer};
 use std::alloc::Global;
+use std::process::Abort;
 use std::test::Fail;
 
 // The items a with k = 1 and 5, b with k = 5, c with k = 3, and d without k.
@@ -64,59 +65,76 @@ fn items_of(answer: &str) -> &str {
     }
 }
 
-#[test]
-fn an_order_falls_page_by_page(rt: HostRuntime) -> Result<(), Fail> {
-    let alloc = rt.alloc();
-    let first = selected(alloc, FOUR, FALLING, "")?;
-    assert_eq!(rt; items_of(first.as_str()), "<Item><Name>a</Name></Item>");
-    assert_eq!(rt; usage_of(first.as_str()), "0.0000001660");
-    let second = selected(alloc, FOUR, FALLING, token_of(first.as_str()))?;
-    assert_eq!(rt; items_of(second.as_str()), "<Item><Name>b</Name></Item>");
-    assert_eq!(rt; usage_of(second.as_str()), "0.0000001660");
-    let third = selected(alloc, FOUR, FALLING, token_of(second.as_str()))?;
-    assert_eq!(rt; items_of(third.as_str()), "<Item><Name>c</Name></Item>");
-    assert_eq!(rt; usage_of(third.as_str()), "0.0000001660");
-    assert_eq!(rt; token_of(third.as_str()), "");
-    Ok(())
+// Compares the pages one after the other, the first after a token: what each shows, and what it costs. Gives the last
+// one's token.
+fn pages(
+    rt: &(impl Abort + AllocGlobal),
+    lines: &str,
+    expression: &str,
+    token: &str,
+    shown: &[&str],
+    usage: &str,
+) -> Result<String, Fail> {
+    let mut token = String::from_str(rt.alloc(), token)?;
+    for items in shown {
+        let answer = selected(rt.alloc(), lines, expression, token.as_str())?;
+        assert_eq!(rt; items_of(answer.as_str()), *items, "{expression}");
+        assert_eq!(rt; usage_of(answer.as_str()), usage, "{expression}");
+        token = String::from_str(rt.alloc(), token_of(answer.as_str()))?;
+    }
+    Ok(token)
 }
 
+const A: &str = "<Item><Name>a</Name></Item>";
+
+const B: &str = "<Item><Name>b</Name></Item>";
+
+const C: &str = "<Item><Name>c</Name></Item>";
+
 #[test]
-fn the_item_of_a_token_may_be_deleted(rt: HostRuntime) -> Result<(), Fail> {
-    let alloc = rt.alloc();
-    let first = selected(alloc, FOUR, FALLING, "")?;
-    let lines = format!(in alloc;
-        "{FOUR}Action=DeleteAttributes&DomainName=dom&ItemName=a\nAction=PutAttributes&DomainName=dom&ItemName=0&Attribute.1.Name=k&Attribute.1.Value=5\nAction=PutAttributes&DomainName=dom&ItemName=aa&Attribute.1.Name=k&Attribute.1.Value=5\n"
-    )?;
-    let mut token = String::from_str(alloc, token_of(first.as_str()))?;
-    for item in [
-        "<Item><Name>aa</Name></Item>",
-        "<Item><Name>b</Name></Item>",
-        "<Item><Name>c</Name></Item>",
-    ] {
-        assert!(rt; !token.is_empty());
-        let answer = selected(alloc, lines.as_str(), FALLING, token.as_str())?;
-        assert_eq!(rt; items_of(answer.as_str()), item);
-        token = String::from_str(alloc, token_of(answer.as_str()))?;
-    }
+fn an_order_falls_page_by_page(rt: HostRuntime) -> Result<(), Fail> {
+    let token = pages(&rt, FOUR, FALLING, "", &[A, B, C], "0.0000001660")?;
     assert!(rt; token.is_empty());
     Ok(())
 }
 
 #[test]
+fn the_item_of_a_token_may_be_deleted(rt: HostRuntime) -> Result<(), Fail> {
+    let token = pages(&rt, FOUR, FALLING, "", &[A], "0.0000001660")?;
+    assert!(rt; !token.is_empty());
+    let lines = format!(in rt.alloc();
+        "{FOUR}Action=DeleteAttributes&DomainName=dom&ItemName=a\nAction=PutAttributes&DomainName=dom&ItemName=0&Attribute.1.Name=k&Attribute.1.Value=5\nAction=PutAttributes&DomainName=dom&ItemName=aa&Attribute.1.Name=k&Attribute.1.Value=5\n"
+    )?;
+    let shown = ["<Item><Name>aa</Name></Item>", B, C];
+    let last = pages(
+        &rt,
+        lines.as_str(),
+        FALLING,
+        token.as_str(),
+        &shown,
+        "0.0000001680",
+    )?;
+    assert!(rt; last.is_empty());
+    Ok(())
+}
+
+#[test]
 fn items_and_counts_have_their_prices(rt: HostRuntime) -> Result<(), Fail> {
-    let alloc = rt.alloc();
-    let answer = selected(alloc, FOUR, "select * from dom where k = '5'", "")?;
-    assert_eq!(rt;
-        items_of(answer.as_str()),
-        "<Item><Name>a</Name><Attribute><Name>k</Name><Value>1</Value></Attribute><Attribute><Name>k</Name><Value>5</Value></Attribute></Item><Item><Name>b</Name><Attribute><Name>k</Name><Value>5</Value></Attribute></Item>"
-    );
-    assert_eq!(rt; usage_of(answer.as_str()), "0.0000001890");
-    let count = selected(alloc, FOUR, "select count(*) from dom", "")?;
-    assert_eq!(rt;
-        items_of(count.as_str()),
-        "<Item><Name>Domain</Name><Attribute><Name>Count</Name><Value>4</Value></Attribute></Item>"
-    );
-    assert_eq!(rt; usage_of(count.as_str()), "0.0000001580");
+    for (expression, shown, usage) in [
+        (
+            "select * from dom where k = '5'",
+            "<Item><Name>a</Name><Attribute><Name>k</Name><Value>1</Value></Attribute><Attribute><Name>k</Name><Value>5</Value></Attribute></Item><Item><Name>b</Name><Attribute><Name>k</Name><Value>5</Value></Attribute></Item>",
+            "0.0000001890",
+        ),
+        (
+            "select count(*) from dom",
+            "<Item><Name>Domain</Name><Attribute><Name>Count</Name><Value>4</Value></Attribute></Item>",
+            "0.0000001580",
+        ),
+        ("select * from none", "", "0.0000001000"),
+    ] {
+        pages(&rt, FOUR, expression, "", &[shown], usage)?;
+    }
     Ok(())
 }
 
@@ -152,8 +170,6 @@ fn selects_are_refused_in_order(rt: HostRuntime) -> Result<(), Fail> {
         let answer = selected(alloc, FOUR, expression, token)?;
         assert_eq!(rt; code_of(answer.as_str()), code, "{expression}");
     }
-    let absent = selected(alloc, FOUR, "select * from none", "")?;
-    assert_eq!(rt; usage_of(absent.as_str()), "0.0000001000");
     Ok(())
 }
 
@@ -175,16 +191,18 @@ fn novels(alloc: Global) -> Result<String, Fail> {
 
 #[test]
 fn a_batch_is_selected(rt: HostRuntime) -> Result<(), Fail> {
-    let alloc = rt.alloc();
-    let lines = novels(alloc)?;
+    let lines = novels(rt.alloc())?;
     let expression = "select itemName() from books where genre = 'novel' limit 2";
-    let answer = selected(alloc, lines.as_str(), expression, "")?;
-    assert_eq!(rt;
-        items_of(answer.as_str()),
-        "<Item><Name>b00</Name></Item><Item><Name>b01</Name></Item>"
-    );
-    assert!(rt; !token_of(answer.as_str()).is_empty());
-    assert_eq!(rt; usage_of(answer.as_str()), "0.0000002200");
+    let shown = "<Item><Name>b00</Name></Item><Item><Name>b01</Name></Item>";
+    let token = pages(
+        &rt,
+        lines.as_str(),
+        expression,
+        "",
+        &[shown],
+        "0.0000002200",
+    )?;
+    assert!(rt; !token.is_empty());
     Ok(())
 }
 
@@ -207,16 +225,14 @@ fn thousand(alloc: Global) -> Result<String, Fail> {
 
 #[test]
 fn a_count_goes_on_by_tokens(rt: HostRuntime) -> Result<(), Fail> {
-    let alloc = rt.alloc();
-    let lines = thousand(alloc)?;
+    let lines = thousand(rt.alloc())?;
     let expression = "select count(*) from nums where g = 'a' limit 400";
-    let mut token = String::new(alloc);
-    for count in ["400", "400", "200"] {
-        let answer = selected(alloc, lines.as_str(), expression, token.as_str())?;
-        assert_eq!(rt; between(answer.as_str(), "<Value>", "</Value>"), count);
-        assert_eq!(rt; usage_of(answer.as_str()), "0.0000021500");
-        token = String::from_str(alloc, token_of(answer.as_str()))?;
-    }
+    let counted =
+        "<Item><Name>Domain</Name><Attribute><Name>Count</Name><Value>400</Value></Attribute></Item>";
+    let rest =
+        "<Item><Name>Domain</Name><Attribute><Name>Count</Name><Value>200</Value></Attribute></Item>";
+    let shown = [counted, counted, rest];
+    let token = pages(&rt, lines.as_str(), expression, "", &shown, "0.0000021500")?;
     assert!(rt; token.is_empty());
     Ok(())
 }

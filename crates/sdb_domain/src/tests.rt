@@ -1,199 +1,210 @@
-// Tests of changes, look-ups and numbers.
+// Tests of changes, look-ups and numbers. A line stands for a change: `make` and `drop` a domain, and in an item of a
+// domain `put` pairs, `take` pairs and all values of names, and `clear`.
 use super::*;
 use sdb_base::{AccountId, OutOfMemory, Steps, Text};
 use sdb_pairs::{Change, Changes, Op, Ops, Pair};
 use std::alloc::Global;
+use std::fmt::Write;
 use std::test::Fail;
 
 const FIRST: AccountId = AccountId(1);
 
 const LAST: AccountId = AccountId(16);
 
+// Names what a counter counts.
+struct Looked;
+
 fn text(alloc: Global, s: &str) -> Result<Text, OutOfMemory> {
     Text::from_str(alloc, s)
 }
 
-fn make(alloc: Global, account: AccountId, domain: &str) -> Result<Change, OutOfMemory> {
-    Ok(Change::MakeDomain(account, text(alloc, domain)?))
+// The line in two where its first blank stands.
+fn cut(line: &str) -> (&str, &str) {
+    line.split_once(' ').unwrap_or((line, ""))
 }
 
-fn drop_domain(alloc: Global, account: AccountId, domain: &str) -> Result<Change, OutOfMemory> {
-    Ok(Change::DropDomain(account, text(alloc, domain)?))
+fn op(alloc: Global, verb: &str, word: &str) -> Result<Op, OutOfMemory> {
+    let Some((name, value)) = word.split_once('=') else {
+        return Ok(Op::DropName(text(alloc, word)?));
+    };
+    let pair = Pair {
+        name: text(alloc, name)?,
+        value: text(alloc, value)?,
+    };
+    Ok(if verb == "put" {
+        Op::AddPair(pair)
+    } else {
+        Op::DropPair(pair)
+    })
 }
 
-fn add(
-    alloc: Global,
-    account: AccountId,
-    domain: &str,
-    item: &str,
-    pairs: &[(&str, &str)],
-) -> Result<Change, OutOfMemory> {
+fn ops(alloc: Global, verb: &str, words: &str) -> Result<Ops, OutOfMemory> {
     let mut ops = Ops::new(alloc);
-    for (name, value) in pairs {
-        ops.push(Op::AddPair(Pair {
-            name: text(alloc, name)?,
-            value: text(alloc, value)?,
-        }))?;
+    if verb == "clear" {
+        ops.push(Op::DropAll)?;
     }
-    Ok(Change::Edit(account, text(alloc, domain)?, text(alloc, item)?, ops))
+    for word in words.split_ascii_whitespace() {
+        ops.push(op(alloc, verb, word)?)?;
+    }
+    Ok(ops)
 }
 
-fn clear(
+fn change(alloc: Global, account: AccountId, line: &str) -> Result<Change, OutOfMemory> {
+    let (verb, words) = cut(line);
+    let (domain, words) = cut(words);
+    let (item, words) = cut(words);
+    let domain = text(alloc, domain)?;
+    Ok(match verb {
+        "make" => Change::MakeDomain(account, domain),
+        "drop" => Change::DropDomain(account, domain),
+        _ => Change::Edit(
+            account,
+            domain,
+            text(alloc, item)?,
+            ops(alloc, verb, words)?,
+        ),
+    })
+}
+
+// Applies the lines together.
+fn apply(
     alloc: Global,
+    accounts: &mut Accounts,
     account: AccountId,
-    domain: &str,
-    item: &str,
-) -> Result<Change, OutOfMemory> {
-    let mut ops = Ops::new(alloc);
-    ops.push(Op::DropAll)?;
-    Ok(Change::Edit(account, text(alloc, domain)?, text(alloc, item)?, ops))
-}
-
-fn apply(accounts: &mut Accounts, alloc: Global, change: Change) -> Result<(), OutOfMemory> {
+    lines: &[&str],
+) -> Result<(), OutOfMemory> {
     let mut changes = Changes::new(alloc);
-    changes.push(change)?;
+    for line in lines {
+        changes.push(change(alloc, account, line)?)?;
+    }
     accounts.apply(&changes)
 }
 
-// How many pairs the item has, if it is there.
-fn pairs_of(
-    accounts: &Accounts,
-    alloc: Global,
-    account: AccountId,
-    domain: &str,
-    item: &str,
-) -> Result<Option<usize>, OutOfMemory> {
-    let mut items = Steps::<Looked>::new();
-    let Some(domain) = accounts.domain(account, &text(alloc, domain)?) else {
-        return Ok(None);
-    };
-    match domain.item(&text(alloc, item)?, &mut items) {
-        Some(item) => Ok(Some(item.pairs().len())),
-        None => Ok(None),
+// The items of a domain, each with the number of its pairs, from name to name.
+fn tell_items(told: &mut String, domain: &Domain) -> Result<(), Fail> {
+    let mut looked = Steps::<Looked>::new();
+    let mut last: Option<&Text> = None;
+    for _item in 0..domain.item_count() {
+        let Some((name, item)) = domain.scan(last, &mut looked) else {
+            break;
+        };
+        let pairs = item.pairs().len();
+        write!(told, " {}:{pairs}", name.as_str())?;
+        last = Some(name);
     }
-}
-
-// Names what a counter counts.
-struct Looked;
-
-#[test]
-fn domains_of_two_accounts_are_apart(rt: HostRuntime) -> Result<(), Fail> {
-    let alloc = rt.alloc();
-    let mut accounts = Accounts::new(alloc);
-    apply(
-        &mut accounts,
-        alloc,
-        add(alloc, FIRST, "books", "i", &[("a", "1")])?,
-    )?;
-    apply(
-        &mut accounts,
-        alloc,
-        add(alloc, LAST, "books", "i", &[("a", "1"), ("b", "22")])?,
-    )?;
-    assert_eq!(rt; pairs_of(&accounts, alloc, FIRST, "books", "i")?, Some(1));
-    assert_eq!(rt; pairs_of(&accounts, alloc, LAST, "books", "i")?, Some(2));
-    assert_eq!(rt; accounts.weight(FIRST), 65 + 66);
-    assert_eq!(rt; accounts.weight(LAST), 65 + 66 + 67);
-    apply(&mut accounts, alloc, drop_domain(alloc, FIRST, "books")?)?;
-    assert!(rt; accounts.domain(FIRST, &text(alloc, "books")?).is_none());
-    assert_eq!(rt; accounts.weight(FIRST), 0);
-    assert_eq!(rt; accounts.domain_count(FIRST), 0);
-    assert_eq!(rt; accounts.domain_count(LAST), 1);
-    assert_eq!(rt; pairs_of(&accounts, alloc, LAST, "books", "i")?, Some(2));
     Ok(())
 }
 
-#[test]
-fn domains_come_in_rising_order(rt: HostRuntime) -> Result<(), Fail> {
-    let alloc = rt.alloc();
-    let mut accounts = Accounts::new(alloc);
-    for name in ["music", "books", "art"] {
-        apply(&mut accounts, alloc, make(alloc, FIRST, name)?)?;
+// The domains of an account, each with its items, and then the number of domains and the weight.
+fn told(alloc: Global, accounts: &Accounts, account: AccountId) -> Result<String, Fail> {
+    let mut told = String::new(alloc);
+    let mut last: Option<&Text> = None;
+    let count = accounts.domain_count(account);
+    for _domain in 0..count {
+        let Some(name) = accounts.domain_after(account, last) else {
+            break;
+        };
+        told.push_str(name.as_str())?;
+        if let Some(domain) = accounts.domain(account, name) {
+            tell_items(&mut told, domain)?;
+        }
+        told.push_str(", ")?;
+        last = Some(name);
     }
-    apply(&mut accounts, alloc, make(alloc, FIRST, "books")?)?;
-    assert_eq!(rt; accounts.domain_count(FIRST), 3);
-    apply(&mut accounts, alloc, drop_domain(alloc, FIRST, "books")?)?;
-    let first = accounts.domain_after(FIRST, None);
-    assert!(rt; first.is_some_and(|name| name.as_str() == "art"));
-    let second = accounts.domain_after(FIRST, first);
-    assert!(rt; second.is_some_and(|name| name.as_str() == "music"));
-    assert!(rt; accounts.domain_after(FIRST, second).is_none());
-    assert!(rt; accounts.domain_after(LAST, None).is_none());
-    Ok(())
+    let weight = accounts.weight(account);
+    write!(told, "{count} of weight {weight}")?;
+    Ok(told)
 }
 
 #[test]
-fn items_without_pairs_are_not_there(rt: HostRuntime) -> Result<(), Fail> {
-    let alloc = rt.alloc();
-    let mut accounts = Accounts::new(alloc);
-    for item in ["c", "a", "b"] {
-        apply(
-            &mut accounts,
-            alloc,
-            add(alloc, FIRST, "books", item, &[("k", "v")])?,
-        )?;
+fn accounts_have_domains_and_these_their_items_in_order(rt: HostRuntime) -> Result<(), Fail> {
+    let mut accounts = Accounts::new(rt.alloc());
+    for (account, lines, wanted) in [
+        (
+            FIRST,
+            ["put books i a=1"].as_slice(),
+            "books i:1, 1 of weight 131",
+        ),
+        (
+            LAST,
+            &["put books i a=1 b=22"],
+            "books i:2, 1 of weight 198",
+        ),
+        (FIRST, &["drop books"], "0 of weight 0"),
+        (LAST, &[], "books i:2, 1 of weight 198"),
+        (
+            FIRST,
+            &["make music", "make books"],
+            "books, music, 2 of weight 0",
+        ),
+        (
+            FIRST,
+            &["make books", "drop none"],
+            "books, music, 2 of weight 0",
+        ),
+        (
+            FIRST,
+            &["put books c k=v", "put books a k=v", "put books b k=v"],
+            "books a:1 b:1 c:1, music, 2 of weight 393",
+        ),
+        (
+            FIRST,
+            &[
+                "clear books b",
+                "clear books d",
+                "take books c k=w",
+                "take books a k",
+            ],
+            "books c:1, music, 2 of weight 131",
+        ),
+        (
+            FIRST,
+            &[
+                "make art",
+                "put books c l=w",
+                "drop books",
+                "put films j a=1",
+            ],
+            "art, films j:1, music, 3 of weight 131",
+        ),
+    ] {
+        apply(rt.alloc(), &mut accounts, account, lines)?;
+        let words = told(rt.alloc(), &accounts, account)?;
+        assert_eq!(rt; words.as_str(), wanted);
     }
-    apply(&mut accounts, alloc, clear(alloc, FIRST, "books", "b")?)?;
-    apply(&mut accounts, alloc, clear(alloc, FIRST, "books", "d")?)?;
-    let Some(books) = accounts.domain(FIRST, &text(alloc, "books")?) else {
-        return Err("the domain is missing")?;
-    };
-    let mut items = Steps::<Looked>::new();
-    let Some((first, item)) = books.scan(None, &mut items) else {
-        return Err("an item is missing")?;
-    };
-    assert_eq!(rt; first.as_str(), "a");
-    assert_eq!(rt; item.pairs().len(), 1);
-    let Some((second, _)) = books.scan(Some(first), &mut items) else {
-        return Err("an item is missing")?;
-    };
-    assert_eq!(rt; second.as_str(), "c");
-    assert!(rt; books.scan(Some(second), &mut items).is_none());
-    let all = books.scan_all(alloc, &mut items)?;
-    assert_eq!(rt; all.len(), 2);
-    assert!(rt; books.item(&text(alloc, "b")?, &mut items).is_none());
-    assert!(rt; books.held_name(&text(alloc, "b")?).is_none());
-    assert!(rt;
-        books
-            .held_name(&text(alloc, "c")?)
-            .is_some_and(|name| name.as_str() == "c")
-    );
-    assert_eq!(rt; books.item_count(), 2);
     Ok(())
 }
 
+// Whether a domain's items are the same by `scan_all` and by `items`, and as many as it says; and whether it has an
+// item of the name by `item` and by `held_name`.
+fn looks_agree(alloc: Global, domain: &Domain, name: &Text) -> Result<(bool, bool, bool), Fail> {
+    let mut looked = Steps::<Looked>::new();
+    let rows = domain.scan_all(alloc, &mut looked)?;
+    let names = domain.items(&mut looked).map(|(name, _)| name);
+    let agree = names.eq(rows.iter().map(|row| row.name));
+    let is_there = domain.item(name, &mut looked).is_some();
+    let is_named = domain.held_name(name).is_some_and(|held| held == name);
+    Ok((agree, is_there, is_named))
+}
+
 #[test]
-fn one_change_that_fails_leaves_none(rt: HostRuntime) -> Result<(), Fail> {
+fn each_way_to_an_item_finds_it(rt: HostRuntime) -> Result<(), Fail> {
     let alloc = rt.alloc();
     let mut accounts = Accounts::new(alloc);
-    apply(
-        &mut accounts,
-        alloc,
-        add(alloc, FIRST, "books", "i", &[("a", "1")])?,
-    )?;
-    let mut changes = Changes::new(alloc);
-    changes.push(make(alloc, FIRST, "music")?)?;
-    changes.push(add(alloc, FIRST, "books", "i", &[("b", "2")])?)?;
-    changes.push(clear(alloc, FIRST, "books", "i")?)?;
-    changes.push(add(alloc, FIRST, "films", "j", &[("a", "1")])?)?;
-    changes.push(drop_domain(alloc, FIRST, "books")?)?;
-    let applied = accounts.apply(&changes).is_ok();
-    let (count, weight, pairs) = if applied {
-        (2, 131, None)
-    } else {
-        (1, 131, Some(1))
-    };
-    assert_eq!(rt; accounts.domain_count(FIRST), count);
-    assert_eq!(rt; accounts.weight(FIRST), weight);
-    assert_eq!(rt; pairs_of(&accounts, alloc, FIRST, "books", "i")?, pairs);
-    assert_eq!(rt;
-        accounts.domain(FIRST, &text(alloc, "music")?).is_some(),
-        applied
-    );
-    assert_eq!(rt;
-        accounts.domain(FIRST, &text(alloc, "films")?).is_some(),
-        applied
-    );
+    let lines = [
+        "put books c k=v",
+        "put books a k=v",
+        "put books b k=v",
+        "clear books b",
+    ];
+    apply(alloc, &mut accounts, FIRST, &lines)?;
+    let books = accounts
+        .domain(FIRST, &text(alloc, "books")?)
+        .ok_or("no domain")?;
+    for (name, is_there) in [("a", true), ("b", false), ("c", true)] {
+        let looks = looks_agree(alloc, books, &text(alloc, name)?)?;
+        assert_eq!(rt; looks, (true, is_there, is_there));
+    }
     Ok(())
 }
 
@@ -202,63 +213,37 @@ fn one_change_that_fails_leaves_none(rt: HostRuntime) -> Result<(), Fail> {
 fn names_are_counted_by_items(rt: HostRuntime) -> Result<(), Fail> {
     let alloc = rt.alloc();
     let mut accounts = Accounts::new(alloc);
-    let pairs = [("a", "1"), ("a", "2"), ("bb", "1")];
-    for item in ["i", "j"] {
-        apply(
-            &mut accounts,
-            alloc,
-            add(alloc, FIRST, "books", item, &pairs)?,
-        )?;
-    }
-    let drops = [("i", Some("1")), ("i", None), ("j", Some("2")), ("j", None)];
-    let mut names = Vec::new(alloc);
-    for (item, value) in drops {
-        apply(&mut accounts, alloc, drop_a(alloc, item, value)?)?;
-        let Some(books) = accounts.domain(FIRST, &text(alloc, "books")?) else {
-            return Err("the domain is missing")?;
-        };
+    let pairs = ["put books i a=1 a=2 bb=1", "put books j a=1 a=2 bb=1"];
+    apply(alloc, &mut accounts, FIRST, &pairs)?;
+    for (line, names) in [
+        ("take books i a=1", (2, 3)),
+        ("take books i a", (2, 3)),
+        ("take books j a=2", (2, 3)),
+        ("take books j a", (1, 2)),
+    ] {
+        apply(alloc, &mut accounts, FIRST, &[line])?;
+        let books = accounts
+            .domain(FIRST, &text(alloc, "books")?)
+            .ok_or("no domain")?;
         let numbers = books.metadata();
-        names.push((numbers.names, numbers.name_bytes))?;
+        assert_eq!(rt; (numbers.names, numbers.name_bytes), names, "{line}");
     }
-    assert_eq!(rt;
-        names.as_slice(),
-        [(2, 3), (2, 3), (2, 3), (1, 2)].as_slice()
-    );
     Ok(())
-}
-
-// Drops one value of the name `a` of an item, or all.
-fn drop_a(alloc: Global, item: &str, value: Option<&str>) -> Result<Change, OutOfMemory> {
-    let name = text(alloc, "a")?;
-    let mut ops = Ops::new(alloc);
-    match value {
-        Some(value) => ops.push(Op::DropPair(Pair {
-            name,
-            value: text(alloc, value)?,
-        }))?,
-        None => ops.push(Op::DropName(name))?,
-    }
-    Ok(Change::Edit(FIRST, text(alloc, "books")?, text(alloc, item)?, ops))
 }
 
 #[test]
 fn weights_and_printed_forms(rt: HostRuntime) -> Result<(), Fail> {
     let alloc = rt.alloc();
     let mut accounts = Accounts::new(alloc);
-    let pairs = [("title", "Emma"), ("year", "1815")];
-    apply(
-        &mut accounts,
-        alloc,
-        add(alloc, FIRST, "books", "b1", &pairs)?,
-    )?;
-    let mut items = Steps::<Looked>::new();
-    let Some(books) = accounts.domain(FIRST, &text(alloc, "books")?) else {
-        return Err("the domain is missing")?;
-    };
-    let Some((name, item)) = books.scan(None, &mut items) else {
-        return Err("an item is missing")?;
-    };
-    assert_eq!(rt; item_weight(name, item.pairs()), Some(66 + 73 + 72));
+    let line = "put books b1 title=Emma year=1815";
+    apply(alloc, &mut accounts, FIRST, &[line])?;
+    let books = accounts
+        .domain(FIRST, &text(alloc, "books")?)
+        .ok_or("no domain")?;
+    let name = text(alloc, "b1")?;
+    let mut looked = Steps::<Looked>::new();
+    let item = books.item(&name, &mut looked).ok_or("no item")?;
+    assert_eq!(rt; item_weight(&name, item.pairs()), Some(66 + 73 + 72));
     let printed = format!(in alloc; "{books:?} {accounts:?}")?;
     assert_eq!(rt; printed.as_str(), "Domain { .. } Accounts { .. }");
     Ok(())
@@ -269,27 +254,16 @@ fn counts_are_those_of_a_plain_count(rt: HostRuntime) -> Result<(), Fail> {
     let alloc = rt.alloc();
     let mut accounts = Accounts::new(alloc);
     for n in 0..1000u32 {
-        let item = format!(in alloc; "item{n:04}")?;
-        let value = format!(in alloc; "{n}")?;
-        let name = format!(in alloc; "name{}", n % 4)?;
-        let pairs = [("kind", "x"), (name.as_str(), value.as_str())];
-        apply(
-            &mut accounts,
-            alloc,
-            add(alloc, FIRST, "books", item.as_str(), &pairs)?,
-        )?;
+        let line = format!(in alloc; "put books item{n:04} kind=x name{}={n}", n % 4)?;
+        apply(alloc, &mut accounts, FIRST, &[line.as_str()])?;
     }
     for n in (0..1000u32).filter(|n| n % 2 == 0) {
-        let item = format!(in alloc; "item{n:04}")?;
-        apply(
-            &mut accounts,
-            alloc,
-            clear(alloc, FIRST, "books", item.as_str())?,
-        )?;
+        let line = format!(in alloc; "clear books item{n:04}")?;
+        apply(alloc, &mut accounts, FIRST, &[line.as_str()])?;
     }
-    let Some(books) = accounts.domain(FIRST, &text(alloc, "books")?) else {
-        return Err("the domain is missing")?;
-    };
+    let books = accounts
+        .domain(FIRST, &text(alloc, "books")?)
+        .ok_or("no domain")?;
     // Each odd item is left: its pairs kind and name1 or name3, whose value has 1, 2 or 3 digits.
     let digits: u64 = 5 + 2 * 45 + 3 * 450;
     assert_eq!(rt;
@@ -303,10 +277,9 @@ fn counts_are_those_of_a_plain_count(rt: HostRuntime) -> Result<(), Fail> {
             value_bytes: 500 + digits,
         }
     );
-    assert_eq!(rt; books.item_count(), 500);
-    assert_eq!(rt; books.pair_count(), 1000);
     let weight: u64 = 500 * (8 + 64) + 500 * (4 + 1 + 64) + 500 * (5 + 64) + digits;
-    assert_eq!(rt; books.weight(), weight);
+    let numbers = (books.item_count(), books.pair_count(), books.weight());
+    assert_eq!(rt; numbers, (500, 1000, weight));
     assert_eq!(rt; accounts.weight(FIRST), weight);
     Ok(())
 }

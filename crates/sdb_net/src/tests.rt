@@ -33,9 +33,7 @@ fn the_connection_that_has_been_idle_longest_is_found(rt: HostRuntime) {
 }
 
 #[test]
-fn what_is_left_stays_with_its_connection_until_it_is_forgotten(
-    rt: HostRuntime,
-) -> Result<(), Fail> {
+fn what_is_left_and_thrown_away_is_kept_for_each_connection(rt: HostRuntime) -> Result<(), Fail> {
     let mut connections = Connections::new(rt.alloc());
     let first = add(&mut connections, 10);
     let second = add(&mut connections, 20);
@@ -49,24 +47,23 @@ fn what_is_left_stays_with_its_connection_until_it_is_forgotten(
     assert_eq!(rt; socket.pending.as_slice(), b"c".as_slice());
     let socket = connections.socket(second).ok_or("open")?;
     assert_eq!(rt; socket.pending.as_slice(), b"xyz".as_slice());
+    connections.close(second);
+    for (number, count, drained) in [(1, 5, 5), (2, 70, 70), (1, 6, 11), (3, 6, 0)] {
+        assert_eq!(rt; connections.drain(number, count), drained);
+    }
     connections.forget(first);
     assert!(rt; connections.socket(first).is_none());
-    Ok(())
-}
-
-#[test]
-fn sixteen_mebibytes_may_be_left_and_no_more(rt: HostRuntime) -> Result<(), Fail> {
-    let mut connections = Connections::new(rt.alloc());
-    let number = add(&mut connections, 10);
+    // Sixteen mebibytes may be left, and no more.
+    let third = add(&mut connections, 30);
     let part = Vec::from_elem(rt.alloc(), 7u8, 1024 * 1024)?;
     for _ in 0..16 {
-        connections.keep(number, part.as_slice())?;
+        connections.keep(third, part.as_slice())?;
     }
-    assert_eq!(rt; connections.keep(number, b"!"), Err(NotKept));
-    connections.wrote(number, 1);
-    assert_eq!(rt; connections.keep(number, b"!"), Ok(()));
-    assert_eq!(rt; connections.keep(number, b"!"), Err(NotKept));
-    let socket = connections.socket(number).ok_or("open")?;
+    assert_eq!(rt; connections.keep(third, b"!"), Err(NotKept));
+    connections.wrote(third, 1);
+    assert_eq!(rt; connections.keep(third, b"!"), Ok(()));
+    assert_eq!(rt; connections.keep(third, b"!"), Err(NotKept));
+    let socket = connections.socket(third).ok_or("open")?;
     assert_eq!(rt; socket.pending.len(), MAX_PENDING);
     assert_eq!(rt; socket.pending.as_slice().last(), Some(&b'!'));
     Ok(())
@@ -97,19 +94,6 @@ fn sixty_four_are_open_and_a_hundred_and_twenty_eight_have_sockets(rt: HostRunti
     connections.forget(1);
     assert!(rt; connections.has_room());
     assert_eq!(rt; add(&mut connections, 1), 129);
-}
-
-#[test]
-fn what_is_thrown_away_is_counted_for_each_connection(rt: HostRuntime) {
-    let mut connections = Connections::new(rt.alloc());
-    for socket in [10, 20] {
-        let number = add(&mut connections, socket);
-        connections.close(number);
-    }
-    assert_eq!(rt; connections.drain(1, 5), 5);
-    assert_eq!(rt; connections.drain(2, 70), 70);
-    assert_eq!(rt; connections.drain(1, 6), 11);
-    assert_eq!(rt; connections.drain(3, 6), 0);
 }
 
 // The first second of 2024, by RFC 3339 1704067200 seconds after the first of 1970.

@@ -6,9 +6,13 @@ use sdb_pairs::{Change, Changes, Op, Ops, Pair};
 use sdb_parse::parse;
 use sdb_token::Position;
 use std::alloc::Global;
+use std::fmt::Write;
+use std::process::Abort;
 use std::test::Fail;
 
 const ACCOUNT: AccountId = AccountId(1);
+
+const FALLING: &str = "select itemName() from dom where k is not null order by k desc limit 1";
 
 // What is counted.
 struct Looked;
@@ -72,84 +76,98 @@ fn thousand_items(alloc: Global) -> Result<Accounts, Fail> {
     Ok(accounts)
 }
 
-// The page of the expression after a position: its names, each with its number of pairs, and `more` where a
-// position comes with it.
+// The page of the expression after a position, of which callers learn nothing else.
+fn selected<'a>(
+    alloc: Global,
+    domain: &'a Domain,
+    expression: &str,
+    after: Option<&Position>,
+) -> Result<Page<'a>, Fail> {
+    let parsed = parse(alloc, &text(alloc, expression)?)?;
+    let mut looked = Steps::<Looked>::new();
+    Ok(select(alloc, domain, &parsed, after, &mut looked)?)
+}
+
+// The page of the expression after a position: its names, each with its number of pairs, or its count, `more` where
+// a position comes with it, and its bound.
 fn page(
     alloc: Global,
     accounts: &Accounts,
     expression: &str,
     after: Option<&Position>,
-) -> Result<(String, Option<Position>, u64), Fail> {
+) -> Result<(String, Option<Position>), Fail> {
     let mut shown = String::new(alloc);
     let Some(domain) = accounts.domain(ACCOUNT, &text(alloc, "dom")?) else {
-        return Ok((shown, None, 0));
+        return Ok((shown, None));
     };
-    let parsed = parse(alloc, &text(alloc, expression)?)?;
-    let mut looked = Steps::<Looked>::new();
-    let page = select(alloc, domain, &parsed, after, &mut looked)?;
+    let page = selected(alloc, domain, expression, after)?;
     for item in page.items.as_slice() {
-        shown.push_str(item.name().as_str())?;
         let pairs = item.pairs().len();
-        shown.push_str(format!(in alloc; ":{pairs} ")?.as_str())?;
+        write!(shown, "{}:{pairs} ", item.name().as_str())?;
     }
     if let Some(count) = page.count {
-        shown.push_str(format!(in alloc; "{count} ")?.as_str())?;
+        write!(shown, "{count} ")?;
     }
     if page.next.is_some() {
-        shown.push_str("more")?;
+        shown.push_str("more ")?;
     }
-    Ok((shown, page.next, page.bound))
+    write!(shown, "of {}", page.bound)?;
+    Ok((shown, page.next))
+}
+
+// Compares the pages of the expression one after the other, the first after a position, and gives the last one's.
+fn pages(
+    rt: &(impl Abort + AllocGlobal),
+    accounts: &Accounts,
+    expression: &str,
+    after: Option<Position>,
+    wanted: &[&str],
+) -> Result<Option<Position>, Fail> {
+    let mut after = after;
+    for words in wanted {
+        let (shown, next) = page(rt.alloc(), accounts, expression, after.as_ref())?;
+        assert_eq!(rt; shown.as_str(), *words, "{expression}");
+        after = next;
+    }
+    Ok(after)
 }
 
 #[test]
 fn an_order_falls_by_the_greatest_value(rt: HostRuntime) -> Result<(), Fail> {
-    let alloc = rt.alloc();
-    let accounts = four_items(alloc)?;
-    let falling = "select itemName() from dom where k is not null order by k desc limit 1";
-    let (shown, next, bound) = page(alloc, &accounts, falling, None)?;
-    assert_eq!(rt; shown.as_str(), "a:0 more");
-    assert_eq!(rt; bound, 3);
-    let (shown, next, _) = page(alloc, &accounts, falling, next.as_ref())?;
-    assert_eq!(rt; shown.as_str(), "b:0 more");
-    let (shown, _, _) = page(alloc, &accounts, falling, next.as_ref())?;
-    assert_eq!(rt; shown.as_str(), "c:0 ");
+    let accounts = four_items(rt.alloc())?;
+    let wanted = ["a:0 more of 3", "b:0 more of 3", "c:0 of 3"];
+    pages(&rt, &accounts, FALLING, None, &wanted)?;
     Ok(())
 }
 
 #[test]
 fn an_order_rises_by_the_least_value(rt: HostRuntime) -> Result<(), Fail> {
-    let alloc = rt.alloc();
-    let accounts = four_items(alloc)?;
-    for (expression, names, bound) in [
+    let accounts = four_items(rt.alloc())?;
+    for (expression, wanted) in [
         (
             "select k from dom where k > '0' order by k",
-            "a:2 c:1 b:1 ",
-            3,
+            "a:2 c:1 b:1 of 3",
         ),
-        ("select * from dom where k = '5'", "a:2 b:1 ", 2),
-        ("select k from dom", "a:2 b:1 c:1 d:0 ", 4),
+        ("select * from dom where k = '5'", "a:2 b:1 of 2"),
+        ("select k from dom", "a:2 b:1 c:1 d:0 of 4"),
         (
             "select * from dom where itemName() > '' order by itemName() desc",
-            "d:1 c:2 b:1 a:2 ",
-            4,
+            "d:1 c:2 b:1 a:2 of 4",
         ),
         (
             "select itemName() from dom where itemName() in ('b', 'a', 'x')",
-            "a:0 b:0 ",
-            2,
+            "a:0 b:0 of 2",
         ),
-        ("select l from dom where k = '3' or l = '2'", "c:1 d:1 ", 2),
-        ("select l from dom where k = '1' and k = '5'", "", 0),
+        ("select l from dom where k = '3' or l = '2'", "c:1 d:1 of 2"),
+        ("select l from dom where k = '1' and k = '5'", "of 0"),
         (
             "select l from dom where k = '1' intersection k = '5'",
-            "a:0 ",
-            1,
+            "a:0 of 1",
         ),
-        ("select l from dom where not k = '5'", "c:1 d:1 ", 4),
+        ("select l from dom where not k = '5'", "c:1 d:1 of 4"),
+        ("select count(*) from dom", "4 of 4"),
     ] {
-        let (shown, _, number) = page(alloc, &accounts, expression, None)?;
-        assert_eq!(rt; shown.as_str(), names, "{expression}");
-        assert_eq!(rt; number, bound, "{expression}");
+        pages(&rt, &accounts, expression, None, &[wanted])?;
     }
     Ok(())
 }
@@ -158,44 +176,23 @@ fn an_order_rises_by_the_least_value(rt: HostRuntime) -> Result<(), Fail> {
 fn the_item_of_a_position_need_not_be_there(rt: HostRuntime) -> Result<(), Fail> {
     let alloc = rt.alloc();
     let mut accounts = four_items(alloc)?;
-    let falling = "select itemName() from dom where k is not null order by k desc limit 1";
-    let (_, next, _) = page(alloc, &accounts, falling, None)?;
+    let after = pages(&rt, &accounts, FALLING, None, &["a:0 more of 3"])?;
     delete(&mut accounts, alloc, "a")?;
     put(&mut accounts, alloc, "0", &[("k", "5")])?;
     put(&mut accounts, alloc, "aa", &[("k", "5")])?;
-    let (shown, next, _) = page(alloc, &accounts, falling, next.as_ref())?;
-    assert_eq!(rt; shown.as_str(), "aa:0 more");
-    let (shown, next, _) = page(alloc, &accounts, falling, next.as_ref())?;
-    assert_eq!(rt; shown.as_str(), "b:0 more");
-    let (shown, _, _) = page(alloc, &accounts, falling, next.as_ref())?;
-    assert_eq!(rt; shown.as_str(), "c:0 ");
+    let wanted = ["aa:0 more of 4", "b:0 more of 4", "c:0 of 4"];
+    pages(&rt, &accounts, FALLING, after, &wanted)?;
     Ok(())
 }
 
 #[test]
 fn a_count_has_pages_by_its_limit_alone(rt: HostRuntime) -> Result<(), Fail> {
-    let alloc = rt.alloc();
-    let accounts = four_items(alloc)?;
-    let (shown, _, bound) = page(alloc, &accounts, "select count(*) from dom", None)?;
-    assert_eq!(rt; shown.as_str(), "4 ");
-    assert_eq!(rt; bound, 4);
-    let nums = thousand_items(alloc)?;
+    let nums = thousand_items(rt.alloc())?;
     let counted = "select count(*) from dom where g = 'a' limit 400";
-    let (shown, next, bound) = page(alloc, &nums, counted, None)?;
-    assert_eq!(rt; shown.as_str(), "400 more");
-    assert_eq!(rt; bound, 1000);
-    let (shown, next, _) = page(alloc, &nums, counted, next.as_ref())?;
-    assert_eq!(rt; shown.as_str(), "400 more");
-    let (shown, _, _) = page(alloc, &nums, counted, next.as_ref())?;
-    assert_eq!(rt; shown.as_str(), "200 ");
-    let (shown, _, bound) = page(
-        alloc,
-        &nums,
-        "select count(*) from dom where k like '10%'",
-        None,
-    )?;
-    assert_eq!(rt; shown.as_str(), "10 ");
-    assert_eq!(rt; bound, 10);
+    let wanted = ["400 more of 1000", "400 more of 1000", "200 of 1000"];
+    pages(&rt, &nums, counted, None, &wanted)?;
+    let few = "select count(*) from dom where k like '10%'";
+    pages(&rt, &nums, few, None, &["10 of 10"])?;
     Ok(())
 }
 
@@ -227,10 +224,9 @@ fn sizes(alloc: Global, accounts: &Accounts) -> Result<(usize, usize), Fail> {
     let Some(domain) = accounts.domain(ACCOUNT, &text(alloc, "dom")?) else {
         return Ok((0, 0));
     };
-    let all = parse(alloc, &text(alloc, "select * from dom")?)?;
-    let mut looked = Steps::<Looked>::new();
-    let first = select(alloc, domain, &all, None, &mut looked)?;
-    let second = select(alloc, domain, &all, first.next.as_ref(), &mut looked)?;
+    let all = "select * from dom";
+    let first = selected(alloc, domain, all, None)?;
+    let second = selected(alloc, domain, all, first.next.as_ref())?;
     Ok((first.items.len(), second.items.len()))
 }
 

@@ -179,18 +179,6 @@ fn told(alloc: Global, lines: &[&str]) -> Result<String, Fail> {
 }
 
 #[test]
-fn a_replace_takes_the_old_values_of_its_name(rt: HostRuntime) -> Result<(), Fail> {
-    let lines = [
-        "make",
-        "put title=A title=B year=1990",
-        "put title=C! title=A year=1990",
-    ];
-    let told = told(rt.alloc(), &lines)?;
-    assert_eq!(rt; told.as_str(), "done done done title=A title=C year=1990 ");
-    Ok(())
-}
-
-#[test]
 fn expectations_are_judged_by_the_table(rt: HostRuntime) -> Result<(), Fail> {
     for (line, wanted) in [
         ("put a=1 if one=x", "done done done a=1 one=x two=x two=y "),
@@ -234,39 +222,47 @@ fn deletions_drop_parts_or_the_whole_item(rt: HostRuntime) -> Result<(), Fail> {
         let told = told(rt.alloc(), &["make", "put a=1 a=2 b=1 b=2 c=1", line])?;
         assert_eq!(rt; told.as_str(), wanted);
     }
-    let told = told(rt.alloc(), &["make", "delete a", "delete"])?;
-    assert_eq!(rt; told.as_str(), "done done done ");
     Ok(())
 }
 
 #[test]
-fn a_domain_has_to_be_there_for_items_alone(rt: HostRuntime) -> Result<(), Fail> {
-    let absent = [
-        "put a=1 if a=1",
-        "delete if a=1",
-        "puts i a=1",
-        "deletes i",
-        "remove",
-    ];
-    let first = told(rt.alloc(), &absent)?;
-    assert_eq!(rt;
-        first.as_str(),
-        "NoSuchDomain NoSuchDomain NoSuchDomain NoSuchDomain done "
-    );
-    let made = ["make", "put a=1", "make"];
-    let second = told(rt.alloc(), &made)?;
-    assert_eq!(rt; second.as_str(), "done done done a=1 ");
-    let removed = ["make", "put a=1", "remove", "make"];
-    let third = told(rt.alloc(), &removed)?;
-    assert_eq!(rt; third.as_str(), "done done done done ");
-    Ok(())
-}
-
-#[test]
-fn a_batch_puts_each_item_as_a_put_does(rt: HostRuntime) -> Result<(), Fail> {
-    let lines = ["make", "put a=1 b=1", "puts h a=9;i a=2! c=1;j b=2"];
-    let told = told(rt.alloc(), &lines)?;
-    assert_eq!(rt; told.as_str(), "done done done a=2 b=1 c=1 ");
+fn a_domain_has_to_be_there_and_puts_replace_and_add(rt: HostRuntime) -> Result<(), Fail> {
+    for (lines, wanted) in [
+        (
+            [
+                "put a=1 if a=1",
+                "delete if a=1",
+                "puts i a=1",
+                "deletes i",
+                "remove",
+            ]
+            .as_slice(),
+            "NoSuchDomain NoSuchDomain NoSuchDomain NoSuchDomain done ",
+        ),
+        (&["make", "put a=1", "make"], "done done done a=1 "),
+        (
+            &["make", "put a=1", "remove", "make"],
+            "done done done done ",
+        ),
+        (&["make", "delete a", "delete"], "done done done "),
+        // A batch puts each item as a put does.
+        (
+            &["make", "put a=1 b=1", "puts h a=9;i a=2! c=1;j b=2"],
+            "done done done a=2 b=1 c=1 ",
+        ),
+        // A replace takes the old values of its name.
+        (
+            &[
+                "make",
+                "put title=A title=B year=1990",
+                "put title=C! title=A year=1990",
+            ],
+            "done done done title=A title=C year=1990 ",
+        ),
+    ] {
+        let told = told(rt.alloc(), lines)?;
+        assert_eq!(rt; told.as_str(), wanted);
+    }
     Ok(())
 }
 
@@ -307,12 +303,10 @@ fn a_domain_has_at_most_250000_pairs(rt: HostRuntime) -> Result<(), Fail> {
     assert!(rt; filled.is_ok());
     let above = execute(alloc, &mut accounts, "put another=more")?;
     assert!(rt; matches!(above, Err(Refusal::NumberDomainAttributesExceeded(250_001))));
-    let there = execute(alloc, &mut accounts, "put one=more p0=v!")?;
-    assert!(rt; there.is_ok());
-    let exchanged = execute(alloc, &mut accounts, "put one=other!")?;
-    assert!(rt; exchanged.is_ok());
-    let fewer = execute(alloc, &mut accounts, "delete p0")?;
-    assert!(rt; fewer.is_ok());
+    for line in ["put one=more p0=v!", "put one=other!", "delete p0"] {
+        let answer = execute(alloc, &mut accounts, line)?;
+        assert_eq!(rt; code_of(answer), "done", "{line}");
+    }
     Ok(())
 }
 

@@ -87,9 +87,7 @@ fn read_all(client: &mut Client, buf: &mut [u8]) -> io::Result<usize> {
 }
 
 #[test]
-fn two_clients_are_answered_and_a_third_that_is_gone_has_ended(
-    rt: HostRuntime,
-) -> Result<(), Fail> {
+fn clients_are_answered_and_have_their_turns(rt: HostRuntime) -> Result<(), Fail> {
     let mut port = Port::bound(&rt)?;
     let mut first = port.open(&rt, 1)?;
     let mut second = port.open(&rt, 2)?;
@@ -105,32 +103,26 @@ fn two_clients_are_answered_and_a_third_that_is_gone_has_ended(
     reads(&rt, &mut first, b"")?;
     reads(&rt, &mut second, b"answer two")?;
     drop(port.open(&rt, 3)?);
-    port.gives(&rt, LinkEvent::Ended(3))
+    port.gives(&rt, LinkEvent::Ended(3))?;
+    // A long piece comes in parts, and another connection has its turn between them.
+    let mut long = port.open(&rt, 4)?;
+    let mut other = port.open(&rt, 5)?;
+    port.takes_one(&rt, &mut long, 4)?;
+    port.takes_one(&rt, &mut other, 5)?;
+    long.write_all(&[b'a'; 4096])?;
+    long.write_all(&[b'b'; 4096])?;
+    long.write_all(b"XYZ")?;
+    other.write_all(b"?")?;
+    port.gives_bytes(&rt, 4, &[b'a'; 4096])?;
+    port.gives_bytes(&rt, 5, b"?")?;
+    port.gives_bytes(&rt, 4, &[b'b'; 4096])?;
+    drop(long);
+    port.gives_bytes(&rt, 4, b"XYZ")?;
+    port.gives(&rt, LinkEvent::Ended(4))
 }
 
 #[test]
-fn a_long_piece_comes_in_parts_and_others_have_their_turns_between(
-    rt: HostRuntime,
-) -> Result<(), Fail> {
-    let mut port = Port::bound(&rt)?;
-    let mut first = port.open(&rt, 1)?;
-    let mut second = port.open(&rt, 2)?;
-    port.takes_one(&rt, &mut first, 1)?;
-    port.takes_one(&rt, &mut second, 2)?;
-    first.write_all(&[b'a'; 4096])?;
-    first.write_all(&[b'b'; 4096])?;
-    first.write_all(b"XYZ")?;
-    second.write_all(b"?")?;
-    port.gives_bytes(&rt, 1, &[b'a'; 4096])?;
-    port.gives_bytes(&rt, 2, b"?")?;
-    port.gives_bytes(&rt, 1, &[b'b'; 4096])?;
-    drop(first);
-    port.gives_bytes(&rt, 1, b"XYZ")?;
-    port.gives(&rt, LinkEvent::Ended(1))
-}
-
-#[test]
-fn the_idle_make_room_for_a_further_connection(rt: HostRuntime) -> Result<(), Fail> {
+fn the_idle_make_room_for_further_connections(rt: HostRuntime) -> Result<(), Fail> {
     let mut port = Port::bound(&rt)?;
     let mut clients = Vec::new(rt.alloc());
     for number in 1..=64 {
@@ -143,31 +135,28 @@ fn the_idle_make_room_for_a_further_connection(rt: HostRuntime) -> Result<(), Fa
     let mut further = port.client(&rt)?;
     port.gives(&rt, LinkEvent::Ended(3))?;
     port.gives(&rt, LinkEvent::Opened(65))?;
-    port.takes_one(&rt, &mut further, 65)
-}
-
-#[test]
-fn a_further_connection_waits_while_none_is_idle(rt: HostRuntime) -> Result<(), Fail> {
-    let mut port = Port::bound(&rt)?;
-    let mut clients = Vec::new(rt.alloc());
-    for number in 1..=64 {
-        let mut one = port.open(&rt, number)?;
-        port.takes_one(&rt, &mut one, number)?;
-        clients.push(one)?;
+    port.takes_one(&rt, &mut further, 65)?;
+    // While none is idle, the next one waits.
+    let mut number: u32 = 0;
+    for one in clients.iter_mut() {
+        number = number.saturating_add(1);
+        if number != 3 {
+            port.takes_one(&rt, one, number)?;
+        }
     }
-    let mut further = port.client(&rt)?;
-    further.write_all(b"?")?;
+    let mut waiting = port.client(&rt)?;
+    waiting.write_all(b"?")?;
     if let Some(last) = clients.last_mut() {
         port.takes_one(&rt, last, 64)?;
     }
     port.links.send(7, b"answer")?;
     port.gives(&rt, LinkEvent::Ended(7))?;
-    port.gives(&rt, LinkEvent::Opened(65))?;
-    port.gives(&rt, LinkEvent::Piece(65, 1))
+    port.gives(&rt, LinkEvent::Opened(66))?;
+    port.gives(&rt, LinkEvent::Piece(66, 1))
 }
 
 #[test]
-fn a_long_answer_goes_on_while_others_are_served_though_its_client_has_ended(
+fn long_answers_go_on_while_others_are_served_but_have_a_limit(
     rt: HostRuntime,
 ) -> Result<(), Fail> {
     let mut port = Port::bound(&rt)?;
@@ -178,6 +167,7 @@ fn a_long_answer_goes_on_while_others_are_served_though_its_client_has_ended(
         port.links.send(1, part.as_slice())?;
     }
     port.links.close(1);
+    // The client has ended, and reads on.
     slow.shutdown(Shutdown::Write)?;
     let mut room = Vec::from_elem(rt.alloc(), 0u8, 65536)?;
     let mut count: usize = 0;
@@ -189,17 +179,12 @@ fn a_long_answer_goes_on_while_others_are_served_though_its_client_has_ended(
         port.takes_one(&rt, &mut other, 2)?;
     }
     assert_eq!(rt; count, 14 * MIB);
-    reads(&rt, &mut slow, b"")
-}
-
-#[test]
-fn more_than_sixteen_mebibytes_that_are_not_taken_fail(rt: HostRuntime) -> Result<(), Fail> {
-    let mut port = Port::bound(&rt)?;
-    let _slow = port.open(&rt, 1)?;
-    let part = Vec::from_elem(rt.alloc(), 7u8, MIB)?;
+    reads(&rt, &mut slow, b"")?;
+    // More than sixteen mebibytes that are not taken fail.
+    let _slower = port.open(&rt, 3)?;
     let mut taken: usize = 0;
     for _ in 0..200 {
-        if port.links.send(1, part.as_slice()).is_err() {
+        if port.links.send(3, part.as_slice()).is_err() {
             break;
         }
         taken = taken.saturating_add(1);
@@ -210,7 +195,7 @@ fn more_than_sixteen_mebibytes_that_are_not_taken_fail(rt: HostRuntime) -> Resul
 }
 
 #[test]
-fn the_last_answer_is_read_though_the_client_goes_on_sending(rt: HostRuntime) -> Result<(), Fail> {
+fn a_closed_connection_may_send_on_but_not_without_end(rt: HostRuntime) -> Result<(), Fail> {
     let mut port = Port::bound(&rt)?;
     let mut first = port.open(&rt, 1)?;
     first.write_all(&[7; 5000])?;
@@ -219,19 +204,14 @@ fn the_last_answer_is_read_though_the_client_goes_on_sending(rt: HostRuntime) ->
     port.links.close(1);
     assert_eq!(rt; port.links.send(1, b"late"), Err(Failed), "it is closed");
     first.write_all(b"and still more")?;
-    let mut second = port.open(&rt, 2)?;
-    port.takes_one(&rt, &mut second, 2)?;
+    let mut other = port.open(&rt, 2)?;
+    port.takes_one(&rt, &mut other, 2)?;
     first.write_all(b"and more again")?;
     reads(&rt, &mut first, b"answer")?;
-    reads(&rt, &mut first, b"")
-}
-
-#[test]
-fn a_closed_connection_that_sends_without_end_is_cut_off(rt: HostRuntime) -> Result<(), Fail> {
-    let mut port = Port::bound(&rt)?;
-    let mut endless = port.open(&rt, 1)?;
-    let mut other = port.open(&rt, 2)?;
-    port.links.close(1);
+    reads(&rt, &mut first, b"")?;
+    // One that sends without end is cut off.
+    let mut endless = port.open(&rt, 3)?;
+    port.links.close(3);
     let mut written: usize = 0;
     let mut is_cut_off = false;
     for _ in 0..2000 {
@@ -251,10 +231,25 @@ fn a_closed_connection_that_sends_without_end_is_cut_off(rt: HostRuntime) -> Res
 }
 
 #[test]
-fn a_send_to_a_peer_that_has_gone_fails_and_its_connection_ends(
-    rt: HostRuntime,
-) -> Result<(), Fail> {
+fn a_port_is_bound_once_and_serves_to_the_last_number(rt: HostRuntime) -> Result<(), Fail> {
     let mut port = Port::bound(&rt)?;
+    assert_eq!(rt; port.links.bind(0), Err(Failed));
+    let number = port.links.port().ok_or("bound")?;
+    let mut links = TcpLinks::new(rt.clone()?, rt.alloc());
+    assert_eq!(rt;
+        links.next(&mut [0]),
+        Ok(LinkEvent::Closed),
+        "nothing is bound"
+    );
+    assert_eq!(rt; links.bind(number), Err(Failed), "the port is taken");
+    assert_eq!(rt; links.port(), None);
+    drop(port);
+    assert_eq!(rt; links.bind(number), Ok(()));
+    let mut port = Port {
+        links,
+        buf: [0u8; 4096],
+    };
+    // A send to a peer that has gone fails, and its connection ends.
     drop(port.open(&rt, 1)?);
     assert_eq!(rt;
         port.links.send(1, b"into the void"),
@@ -269,30 +264,8 @@ fn a_send_to_a_peer_that_has_gone_fails_and_its_connection_ends(
         }
     }
     assert!(rt; has_failed, "the peer has answered with a reset");
-    port.gives(&rt, LinkEvent::Ended(1))
-}
-
-#[test]
-fn a_port_is_bound_once(rt: HostRuntime) -> Result<(), Fail> {
-    let mut port = Port::bound(&rt)?;
-    assert_eq!(rt; port.links.bind(0), Err(Failed));
-    let number = port.links.port().ok_or("bound")?;
-    let mut others = TcpLinks::new(rt.clone()?, rt.alloc());
-    assert_eq!(rt;
-        others.next(&mut [0]),
-        Ok(LinkEvent::Closed),
-        "nothing is bound"
-    );
-    assert_eq!(rt; others.bind(number), Err(Failed), "the port is taken");
-    assert_eq!(rt; others.port(), None);
-    drop(port);
-    assert_eq!(rt; others.bind(number), Ok(()));
-    Ok(())
-}
-
-#[test]
-fn after_the_last_number_nothing_comes(rt: HostRuntime) -> Result<(), Fail> {
-    let mut port = Port::bound(&rt)?;
+    port.gives(&rt, LinkEvent::Ended(1))?;
+    // After the last number nothing comes.
     port.links.connections = Connections::numbered_after(rt.alloc(), u32::MAX - 1);
     let _last = port.open(&rt, u32::MAX)?;
     let _further = port.client(&rt)?;
