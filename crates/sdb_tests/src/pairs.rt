@@ -1,6 +1,6 @@
 // Tests of items and operations.
-use super::*;
 use sdb_base::{OutOfMemory, Text};
+use sdb_pairs::{Item, ItemOut, Op, Ops, Pair, Pairs, merge};
 use std::alloc::Global;
 use std::test::Fail;
 

@@ -1,6 +1,6 @@
 // Tests of patterns and of tests of one text.
-use crate::{Pattern, Test, fits, like};
 use sdb_base::{Text, Texts};
+use sdb_parse::{Pattern, Test, fits, like};
 use std::alloc::Global;
 use std::test::Fail;
 

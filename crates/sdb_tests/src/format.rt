@@ -1,5 +1,5 @@
 // Tests of numbers and texts.
-use super::*;
+use sdb_format::{FormatFault, read_byte, read_text, read_u16, read_u32};
 use std::test::Fail;
 
 // Why these bytes aren't a text of 1 to 1,024 bytes behind its length, where they aren't.

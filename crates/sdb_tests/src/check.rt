@@ -1,8 +1,10 @@
 // Checks over files in memory.
-use super::*;
 use sdb_base::{Bytes, Numbers};
+use sdb_check::check;
 use sdb_disk::MemoryDisk;
 use sdb_io::MemorySink;
+use sdb_status::Status;
+use std::alloc::Global;
 use std::test::Fail;
 
 // A journal with the records 1, CreateDomain `books` of account 1, and 2, a put of title = Emma to its item i1.

@@ -5,8 +5,8 @@ ghost use Rattle.sdb_arrivals.specs.Story.{event_of};
 ghost use Rattle.sdb_store.specs.Kept.{Ready};
 ghost use Rattle.sdb_core.specs.Causes.{CanCome};
 
-use super::*;
 use sdb_base::{Numbers, Steps};
+use sdb_core::{Core, CoreFault, Event};
 use sdb_disk::{Disk, MemoryDisk, OpenFault};
 use sdb_keys::{Keys, read_keys};
 use std::process::Abort;

@@ -1,6 +1,6 @@
 // Tests of the printed form.
-use crate::{parse, print};
 use sdb_base::Text;
+use sdb_parse::{parse, print};
 use std::alloc::Global;
 use std::test::Fail;
 

@@ -1,7 +1,7 @@
 // Tests of orders, pages and counts, worked by hand.
-use super::*;
 use sdb_base::{AccountId, OutOfMemory, Steps, Text};
 use sdb_domain::{Accounts, Domain};
+use sdb_page::{Page, select, walk};
 use sdb_pairs::{Change, Changes, Op, Ops, Pair};
 use sdb_parse::parse;
 use sdb_token::Position;

@@ -2,9 +2,9 @@
 ghost use Rattle.std.specs.Prelude.{◌≤◌, length};
 ghost use Rattle.std.specs.Option.{ForSome};
 
-use super::*;
 use sdb_base::Text;
 use sdb_tables::Refusal;
+use sdb_token::{Position, digest, read_token, write_token};
 use std::alloc::Global;
 use std::process::Abort;
 use std::test::Fail;

@@ -3,10 +3,10 @@ ghost use Rattle.std.specs.Prelude.{◌≡◌, ◌≤◌, true, [], length, IfOk
 ghost use Rattle.sdb_base.specs.Names.{IsDomainName};
 ghost use Rattle.sdb_store.specs.Kept.{Ready};
 
-use super::*;
 use sdb_base::{AccountId, Bytes, Numbers, Text};
 use sdb_disk::{Disk, FileDisk, MemoryDisk, OpenFault};
 use sdb_pairs::{Change, Changes};
+use sdb_store::Store;
 use std::alloc::Global;
 use std::fs;
 use std::process::Abort;

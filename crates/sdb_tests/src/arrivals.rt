@@ -1,7 +1,7 @@
 //! Connections and what they bring, as a server sees them.
 
-use super::*;
 use sdb_action::Request;
+use sdb_arrivals::{CoreFault, Line, Table};
 use sdb_keys::{Keys, read_keys};
 use sdb_tables::Refusal;
 use std::process::Abort;

@@ -4,9 +4,9 @@ ghost use Rattle.sdb_disk.specs.Disk.{SettledFile};
 ghost use Rattle.sdb_disk.specs.Memory.{memory_state};
 ghost use Rattle.sdb_record.specs.Journals.{IsClosed};
 
-use super::*;
 use sdb_base::{Bytes, Numbers};
 use sdb_disk::{Disk, DiskFault, MemoryDisk, OpenFault};
+use sdb_journal::{Journal, read_head};
 use std::alloc::Global;
 use std::process::Abort;
 use std::test::Fail;

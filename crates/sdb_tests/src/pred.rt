@@ -1,8 +1,8 @@
 // Tests of conditions over items.
-use super::*;
 use sdb_base::Text;
 use sdb_pairs::{Item, Op, Ops, Pair, merge};
 use sdb_parse::parse;
+use sdb_pred::holds;
 use std::alloc::Global;
 use std::test::Fail;
 

@@ -1,11 +1,11 @@
 //! Bodies, written out by the rules of docs/FORMATS.md.
 
-use super::*;
 use sdb_action::Action;
 use sdb_base::{Bytes, Text, Texts};
 use sdb_domain::Metadata;
 use sdb_http::response;
 use sdb_pairs::{ItemOut, ItemsOut, Pair, Pairs};
+use sdb_reply::{Outcome, RequestId, body, fault_into, refusal_into, room, told};
 use sdb_tables::Refusal;
 use std::alloc::Global;
 use std::process::Abort;
@@ -76,11 +76,11 @@ fn token(alloc: Global) -> Result<Option<Text>, Fail> {
 fn a_write_that_is_done_has_no_result(rt: HostRuntime) -> Result<(), Fail> {
     let id = RequestId { conn: 1, number: 1 };
     let outcome = Outcome::Done(Action::CreateDomain);
-    let told = body(rt.alloc(), &outcome, &id, 50_000)?;
-    assert_eq!(rt; told.as_slice(), DONE.as_bytes());
-    let sent = response(rt.alloc(), outcome.status(), told.as_slice(), false)?;
+    let made = body(rt.alloc(), &outcome, &id, 50_000)?;
+    assert_eq!(rt; made.as_slice(), DONE.as_bytes());
+    let sent = response(rt.alloc(), outcome.status(), made.as_slice(), false)?;
     assert_eq!(rt; sent.as_slice(), DONE_SENT.as_bytes());
-    let whole = telling::told(rt.alloc(), &outcome, &id, 50_000, false)?;
+    let whole = told(rt.alloc(), &outcome, &id, 50_000, false)?;
     assert_eq!(rt; whole.as_slice(), DONE_SENT.as_bytes());
     Ok(())
 }
@@ -187,10 +187,10 @@ fn expect_foreseen<'a>(
     outcome: &Outcome<'a>,
     text: &str,
 ) -> Result<(), Fail> {
-    assert_eq!(rt; reckoning::foreseen(outcome), text.len());
     let id = RequestId { conn: 1, number: 1 };
-    let whole = telling::told(alloc, outcome, &id, 1_000, true)?;
+    let whole = told(alloc, outcome, &id, 1_000, true)?;
     let made = body(alloc, outcome, &id, 1_000)?;
+    assert_eq!(rt; made.len(), text.len());
     let sent = response(alloc, outcome.status(), made.as_slice(), true)?;
     assert_eq!(rt; whole.as_slice(), sent.as_slice());
     Ok(())

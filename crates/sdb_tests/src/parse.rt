@@ -1,6 +1,6 @@
 // Tests of whole expressions.
-use super::*;
 use sdb_base::Text;
+use sdb_parse::{Expr, Select, Test, like, parse};
 use sdb_tables::Refusal;
 use std::alloc::Global;
 use std::test::Fail;

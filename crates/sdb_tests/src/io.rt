@@ -2,8 +2,11 @@
 ghost use Rattle.std.specs.Prelude.{◌≡◌, ◌≤◌, true, IfOk};
 ghost use Rattle.sdb_io.specs.Playback.{is_story};
 
-use super::*;
 use sdb_base::{Bytes, Numbers, OutOfMemory};
+use sdb_io::{
+    Clock, Failed, LinkEvent, LinkScript, LinkStep, Links, MemoryClock, MemoryLinks, MemorySink,
+    MemorySource, ReadSource, Sink, Source, WriteSink, write_whole,
+};
 use std::io::{self, ErrorKind, Read, Write};
 use std::process::Abort;
 use std::test::Fail;

@@ -1,10 +1,10 @@
 //! Arrivals answered over accounts without domains, as a connection brings them.
 
-use super::*;
 use sdb_arrivals::{Line, Table};
 use sdb_base::Steps;
 use sdb_domain::Accounts;
 use sdb_keys::read_keys;
+use sdb_respond::{Response, respond};
 use std::process::Abort;
 use std::test::Fail;
 

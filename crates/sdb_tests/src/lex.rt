@@ -1,7 +1,7 @@
 //! Texts with their tokens, the first faults with their places, and the class of each ASCII byte.
 
-use super::*;
 use sdb_base::Text;
+use sdb_lex::{Kind, LexFault, Tokens, lex};
 use std::alloc::Global;
 use std::test::Fail;
 

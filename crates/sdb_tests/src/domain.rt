@@ -1,7 +1,7 @@
 // Tests of changes, look-ups and numbers. A line stands for a change: `make` and `drop` a domain, and in an item of a
 // domain `put` pairs, `take` pairs and all values of names, and `clear`.
-use super::*;
 use sdb_base::{AccountId, OutOfMemory, Steps, Text};
+use sdb_domain::{Accounts, Domain, Metadata, item_weight};
 use sdb_pairs::{Change, Changes, Op, Ops, Pair};
 use std::alloc::Global;
 use std::fmt::Write;

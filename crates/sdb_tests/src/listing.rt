@@ -1,6 +1,9 @@
 // The text of accounts with domains.
-use super::*;
+use sdb_base::{AccountId, Text};
+use sdb_domain::Accounts;
+use sdb_listing::listing;
 use sdb_pairs::{Change, Changes, Op, Ops, Pair};
+use std::alloc::Global;
 use std::test::Fail;
 
 fn text(alloc: Global, s: &str) -> Result<Text, Fail> {

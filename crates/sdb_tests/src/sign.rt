@@ -1,9 +1,9 @@
 //! Outside cases of HMAC, worked texts and signatures, and the refusals in their order.
 
-use super::*;
 use sdb_base::Params;
 use sdb_form::read;
 use sdb_keys::read_keys;
+use sdb_sign::{Verb, hmac, string_to_sign, verify};
 use sdb_tables::Refusal;
 use std::process::Abort;
 use std::test::Fail;

@@ -1,7 +1,7 @@
 // Tests of bytes written out, of their fronts, and of changed bytes.
-use super::*;
 use sdb_base::{AccountId, Text};
 use sdb_pairs::{Change, Changes, Op, Ops};
+use sdb_record::{RecordFault, read_change, read_changes, write_change, write_changes};
 use std::alloc::Global;
 use std::test::Fail;
 

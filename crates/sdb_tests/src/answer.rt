@@ -2,8 +2,8 @@
 ghost use Rattle.std.specs.Prelude.{IfOk};
 ghost use Rattle.sdb_action.specs.Lawful.{IsLawfulRequest};
 
-use super::*;
 use sdb_action::{Request, read_action, read_request};
+use sdb_answer::{Answer, answer};
 use sdb_base::{AccountId, Steps};
 use sdb_domain::Accounts;
 use sdb_form::read;

@@ -7,13 +7,13 @@ ghost use Rattle.std.specs.Prelude.{◌≡◌, IfOk};
 ghost use Rattle.sdb_action.specs.Lawful.{IsLawfulRequest};
 ghost use Rattle.sdb_write.specs.Writes.{IsWrite};
 
-use super::*;
 use sdb_action::{Request, read_action, read_request};
 use sdb_base::{AccountId, OutOfMemory, Steps, Text};
 use sdb_domain::Accounts;
 use sdb_form::read;
 use sdb_pairs::{Change, Changes, Op, Ops, Pair};
 use sdb_tables::{Refusal, fault_row};
+use sdb_write::decide;
 use std::alloc::Global;
 use std::fmt::Write;
 use std::test::Fail;
@@ -347,15 +347,16 @@ fn an_account_has_at_most_250_domains(rt: HostRuntime) -> Result<(), Fail> {
     Ok(())
 }
 
-// The names that a put drops, each with a blank behind.
-fn dropped(alloc: Global, request: &Request) -> Result<String, OutOfMemory> {
+// The names that the changes drop, each with a blank behind.
+fn dropped(alloc: Global, changes: &Changes) -> Result<String, OutOfMemory> {
     let mut names = String::new(alloc);
-    if let Request::Put(_, item, _) = request {
-        let ops = ops::put_ops(alloc, item.pairs.as_slice())?;
-        for op in ops.as_slice() {
-            if let Op::DropName(name) = op {
-                names.push_str(name.as_str())?;
-                names.push(' ')?;
+    for change in changes.as_slice() {
+        if let Change::Edit(_, _, _, ops) = change {
+            for op in ops.as_slice() {
+                if let Op::DropName(name) = op {
+                    names.push_str(name.as_str())?;
+                    names.push(' ')?;
+                }
             }
         }
     }
@@ -364,9 +365,14 @@ fn dropped(alloc: Global, request: &Request) -> Result<String, OutOfMemory> {
 
 #[test]
 fn a_put_drops_each_replaced_name_once(rt: HostRuntime) -> Result<(), Fail> {
-    let form = form_of(rt.alloc(), "put c=1 b=1! a=1! b=2! c=2!")?;
-    let request = request_of(rt.alloc(), form.as_str())?;
-    let names = dropped(rt.alloc(), &request)?;
+    let alloc = rt.alloc();
+    let mut accounts = Accounts::new(alloc);
+    let made = execute(alloc, &mut accounts, "make")?;
+    assert!(rt; made.is_ok());
+    let form = form_of(alloc, "put c=1 b=1! a=1! b=2! c=2!")?;
+    let request = request_of(alloc, form.as_str())?;
+    let changes = decide(alloc, &accounts, ACCOUNT, &request)?;
+    let names = dropped(alloc, &changes)?;
     assert_eq!(rt; names.as_str(), "b a c ");
     Ok(())
 }

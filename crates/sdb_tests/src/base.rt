@@ -1,5 +1,5 @@
 // Tests of texts, numbers and calls with ample memory.
-use super::*;
+use sdb_base::{Boxed, Bytes, Numbers, Params, Text, read_decimal};
 use std::cmp::Ordering;
 use std::test::Fail;
 

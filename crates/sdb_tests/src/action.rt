@@ -1,6 +1,8 @@
 //! What forms ask for: the request or the refusal of each, as one line.
 
-use super::*;
+use sdb_action::{
+    Action, DropItem, DropItems, Expect, PutItem, PutItems, Request, read_action, read_request,
+};
 use sdb_base::{Text, Texts};
 use sdb_form::read;
 use sdb_tables::Refusal;

@@ -2,8 +2,8 @@
 
 ghost use Rattle.std.specs.Prelude.{◌≡◌, OnOk};
 
-use super::*;
 use sdb_base::Verb;
+use sdb_http::{Feed, HttpFault, response};
 use std::alloc::Global;
 use std::process::Abort;
 use std::test::Fail;

@@ -1,6 +1,6 @@
 // Words that name a command, and words that don't.
-use crate::{Command, read_command};
 use sdb_base::{Text, Words};
+use sdb_words::{Command, read_command};
 use std::alloc::Global;
 use std::test::Fail;
 

@@ -1,8 +1,8 @@
 //! Prices, worked by hand from the table of docs/PROFILE.md.
 
-use super::*;
 use sdb_action::{Action, PutItem, PutItems, PutPair, PutPairs, Request};
 use sdb_base::Text;
+use sdb_cost::{print_units, units};
 use sdb_reply::Outcome;
 use sdb_tables::Refusal;
 use std::alloc::Global;

@@ -1,7 +1,7 @@
 //! What no contract says: that fields are read where there is memory, and that a refusal can be shown.
 
-use super::*;
 use sdb_base::{Params, Text};
+use sdb_tables::{FieldKind, ParamRow, Refusal, fault_table, read_rules};
 use std::test::Fail;
 
 const ROWS: [ParamRow; 2] = [
