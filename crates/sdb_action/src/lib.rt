@@ -20,6 +20,3 @@ pub use request::{
     DropItem, DropItems, DropPart, DropParts, Expect, PutItem, PutItems, PutPair, PutPairs,
     Request, read_request,
 };
-
-#[cfg(test)]
-mod tests;

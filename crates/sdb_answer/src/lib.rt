@@ -12,6 +12,3 @@ mod selecting;
 pub use answered::Answer;
 pub use answers::answer;
 pub use laws::{changes_lead_after, tokens_stand_where_more_is_left};
-
-#[cfg(test)]
-mod tests;

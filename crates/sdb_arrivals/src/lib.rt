@@ -23,6 +23,3 @@ pub use line::{Held, Line, Queued};
 pub use read::Read;
 pub use room::Room;
 pub use table::Table;
-
-#[cfg(test)]
-mod tests;

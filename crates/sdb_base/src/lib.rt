@@ -24,6 +24,3 @@ pub use params::Params;
 pub use steps::Steps;
 pub use text::Text;
 pub use verb::Verb;
-
-#[cfg(test)]
-mod tests;

@@ -65,6 +65,3 @@ fn write_listing<K: Sink>(alloc: Global, store: &Store, output: &mut K) -> Statu
     };
     Status::Done
 }
-
-#[cfg(test)]
-mod tests;

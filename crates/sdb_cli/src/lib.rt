@@ -11,14 +11,3 @@ mod session;
 
 pub use command::run;
 pub use sdb_status::Status;
-
-#[cfg(test)]
-mod tests;
-#[cfg(test)]
-mod tests_of_batches;
-#[cfg(test)]
-mod tests_of_replay;
-#[cfg(test)]
-mod tests_of_selects;
-#[cfg(test)]
-mod tests_of_serve;

@@ -14,6 +14,3 @@ pub use laws::{
 };
 pub use sdb_arrivals::{CoreFault, Event};
 pub use the_core::Core;
-
-#[cfg(test)]
-mod tests;

@@ -6,6 +6,3 @@ mod print;
 
 pub use prices::units;
 pub use print::print_units;
-
-#[cfg(test)]
-mod tests;

@@ -22,6 +22,3 @@ pub use laws::walks_give_all;
 pub use metadata::Metadata;
 pub use row::Row;
 pub use sums::item_weight;
-
-#[cfg(test)]
-mod tests;

@@ -14,6 +14,3 @@ pub use laws::{letters_are_a_format, numbers_are_formats, texts_are_a_format};
 pub use letters::read_letters;
 pub use numbers::{read_byte, read_u16, read_u32};
 pub use text::read_text;
-
-#[cfg(test)]
-mod tests;

@@ -23,6 +23,3 @@ pub use laws::{
 pub use message::Message;
 pub use reading::count_replies;
 pub use responses::response;
-
-#[cfg(test)]
-mod tests;

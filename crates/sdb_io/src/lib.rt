@@ -15,6 +15,3 @@ pub use failed::Failed;
 pub use links::{LinkEvent, LinkScript, LinkStep, Links, MemoryLinks};
 pub use sink::{MemorySink, Sink, WriteSink, write_whole};
 pub use source::{MemorySource, ReadSource, Source};
-
-#[cfg(test)]
-mod tests;

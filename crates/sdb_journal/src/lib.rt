@@ -13,6 +13,3 @@ mod window;
 
 pub use head::read_head;
 pub use journal::Journal;
-
-#[cfg(test)]
-mod tests;

@@ -12,6 +12,3 @@ pub use fault::LexFault;
 pub use laws::one_cutting;
 pub use lexer::lex;
 pub use token::{Kind, Token, Tokens};
-
-#[cfg(test)]
-mod tests;

@@ -69,6 +69,3 @@ fn append_decimal(text: &mut Bytes, number: u64) -> Result<(), OutOfMemory>
     let mut digits = Buffer::new();
     text.append(digits.format(number).as_bytes())
 }
-
-#[cfg(test)]
-mod tests;

@@ -19,6 +19,3 @@ pub use laws::{
 pub use page::Page;
 pub use paging::{select, walk};
 pub use place::is_keyed;
-
-#[cfg(test)]
-mod tests;

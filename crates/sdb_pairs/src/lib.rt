@@ -23,6 +23,3 @@ pub use listing::{ItemOut, ItemsOut, Pairs};
 pub use op::{Op, Ops};
 pub use pair::Pair;
 pub use part::{Exchange, touched};
-
-#[cfg(test)]
-mod tests;

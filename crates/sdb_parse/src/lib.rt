@@ -33,10 +33,3 @@ pub use printing::print;
 pub use reading::parse;
 pub use select::{Output, Select, Sort, SortKey};
 pub use test::Test;
-
-#[cfg(test)]
-mod tests;
-#[cfg(test)]
-mod tests_of_printing;
-#[cfg(test)]
-mod tests_of_values;

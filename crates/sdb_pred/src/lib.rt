@@ -10,8 +10,3 @@ pub use asking::asks;
 pub use attr::sole;
 pub use holding::holds;
 pub use needing::{can_hold, has_value_for_all, has_value_for_some, has_value_that_fits};
-
-#[cfg(test)]
-mod tests;
-#[cfg(test)]
-mod worked;

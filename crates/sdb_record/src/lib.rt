@@ -18,6 +18,3 @@ pub use stands::{
     one_is_first_bad, stand_for_one,
 };
 pub use write::{write_change, write_changes};
-
-#[cfg(test)]
-mod tests;

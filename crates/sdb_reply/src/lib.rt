@@ -18,6 +18,3 @@ pub use faults::{fault_into, refusal_into, room};
 pub use outcome::{Outcome, RequestId};
 pub use parts::append_hours;
 pub use telling::told;
-
-#[cfg(test)]
-mod tests;

@@ -8,6 +8,3 @@ mod replies;
 pub use answered::Response;
 pub use laws::{first_refusal_answers, reads_are_lawful};
 pub use replies::respond;
-
-#[cfg(test)]
-mod tests;

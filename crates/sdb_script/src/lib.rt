@@ -25,6 +25,3 @@ pub use laws::{
 pub use reader::ScriptReader;
 pub use workload::generate;
 pub use written::{write_closed, write_out};
-
-#[cfg(test)]
-mod tests;

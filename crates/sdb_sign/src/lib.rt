@@ -14,6 +14,3 @@ pub use laws::{one_order, one_verdict};
 pub use sdb_base::Verb;
 pub use sdb_keys::hmac;
 pub use verdict::verify;
-
-#[cfg(test)]
-mod tests;

@@ -3,5 +3,5 @@ mod CommitLemmas
 mod FrameLemmas
 mod KeptLemmas
 mod OpenLemmas
-mod SmallLemmas
+pub mod SmallLemmas
 mod SyncLemmas

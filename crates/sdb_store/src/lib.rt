@@ -13,6 +13,3 @@ mod sync;
 
 pub use laws::lawful_accounts_have_small_items;
 pub use store::Store;
-
-#[cfg(test)]
-mod tests;

@@ -10,6 +10,3 @@ pub use faults::{FAULTS, FaultRow, fault_row, fault_table};
 pub use kind::FieldKind;
 pub use refusal::Refusal;
 pub use rules::{Fields, ParamRow, Rules, read_field, read_rules};
-
-#[cfg(test)]
-mod tests;

@@ -12,6 +12,3 @@ pub use laws::{one_digest_and_position, tokens_are_read};
 pub use position::Position;
 pub use read::read_token;
 pub use write::write_token;
-
-#[cfg(test)]
-mod tests;

@@ -6,6 +6,3 @@ mod command;
 mod numbers;
 
 pub use command::{Command, read_command};
-
-#[cfg(test)]
-mod tests;

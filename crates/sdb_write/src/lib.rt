@@ -12,6 +12,3 @@ mod puts;
 
 pub use decision::decide;
 pub use laws::{writes_are_changes, writes_keep_accounts_rising};
-
-#[cfg(test)]
-mod tests;

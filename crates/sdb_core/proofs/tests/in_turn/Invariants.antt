@@ -1,5 +1,0 @@
-use Rattle.sdb_store.specs.Kept.{Ready}
-use Rattle.sdb_core.proofs.tests.in_turn.Given as goal
-
-abbrev pub invariant-bytes : goal.invariant-bytes
-invariant-bytes g l = Ready l.core.store (g.D.Disk.state l.disk)

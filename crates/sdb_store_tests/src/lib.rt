@@ -1,0 +1,19 @@
+//! Tests of the store, from pairs to the core over it, by what the libraries show their callers.
+#![tactic(auto)]
+
+#[cfg(test)]
+mod checking;
+#[cfg(test)]
+mod domain;
+#[cfg(test)]
+mod format;
+#[cfg(test)]
+mod journal;
+#[cfg(test)]
+mod pairs;
+#[cfg(test)]
+mod record;
+#[cfg(test)]
+mod stepping;
+#[cfg(test)]
+mod store;
