@@ -280,36 +280,6 @@ fn filling(alloc: Global, item: &str, count: usize) -> Result<Change, Fail> {
     Ok(Change::Edit(ACCOUNT, domain, Text::from_str(alloc, item)?, ops))
 }
 
-// Gives the domain so many items of 256 pairs.
-fn fill(alloc: Global, accounts: &mut Accounts, items: usize) -> Result<(), Fail> {
-    for number in 0..items {
-        let name = format!(in alloc; "full{number}")?;
-        let mut changes = Changes::new(alloc);
-        changes.push(filling(alloc, name.as_str(), 256)?)?;
-        accounts.apply(&changes)?;
-    }
-    Ok(())
-}
-
-#[test]
-fn a_domain_has_at_most_250000_pairs(rt: HostRuntime) -> Result<(), Fail> {
-    let alloc = rt.alloc();
-    let mut accounts = Accounts::new(alloc);
-    fill(alloc, &mut accounts, 976)?;
-    let mut last = Changes::new(alloc);
-    last.push(filling(alloc, "i", 143)?)?;
-    accounts.apply(&last)?;
-    let filled = execute(alloc, &mut accounts, "put one=more")?;
-    assert!(rt; filled.is_ok());
-    let above = execute(alloc, &mut accounts, "put another=more")?;
-    assert!(rt; matches!(above, Err(Refusal::NumberDomainAttributesExceeded(250_001))));
-    for line in ["put one=more p0=v!", "put one=other!", "delete p0"] {
-        let answer = execute(alloc, &mut accounts, line)?;
-        assert_eq!(rt; code_of(answer), "done", "{line}");
-    }
-    Ok(())
-}
-
 #[test]
 fn a_batch_whose_last_item_is_too_large_changes_none(rt: HostRuntime) -> Result<(), Fail> {
     let alloc = rt.alloc();
@@ -344,35 +314,5 @@ fn an_account_has_at_most_250_domains(rt: HostRuntime) -> Result<(), Fail> {
     assert!(rt; matches!(more, Err(Refusal::NumberDomainsExceeded(251))));
     let there = execute(alloc, &mut accounts, "make domain7")?;
     assert!(rt; there.is_ok());
-    Ok(())
-}
-
-// The names that the changes drop, each with a blank behind.
-fn dropped(alloc: Global, changes: &Changes) -> Result<String, OutOfMemory> {
-    let mut names = String::new(alloc);
-    for change in changes.as_slice() {
-        if let Change::Edit(_, _, _, ops) = change {
-            for op in ops.as_slice() {
-                if let Op::DropName(name) = op {
-                    names.push_str(name.as_str())?;
-                    names.push(' ')?;
-                }
-            }
-        }
-    }
-    Ok(names)
-}
-
-#[test]
-fn a_put_drops_each_replaced_name_once(rt: HostRuntime) -> Result<(), Fail> {
-    let alloc = rt.alloc();
-    let mut accounts = Accounts::new(alloc);
-    let made = execute(alloc, &mut accounts, "make")?;
-    assert!(rt; made.is_ok());
-    let form = form_of(alloc, "put c=1 b=1! a=1! b=2! c=2!")?;
-    let request = request_of(alloc, form.as_str())?;
-    let changes = decide(alloc, &accounts, ACCOUNT, &request)?;
-    let names = dropped(alloc, &changes)?;
-    assert_eq!(rt; names.as_str(), "b a c ");
     Ok(())
 }

@@ -1,7 +1,7 @@
 // Tests of changes, look-ups and numbers. A line stands for a change: `make` and `drop` a domain, and in an item of a
 // domain `put` pairs, `take` pairs and all values of names, and `clear`.
 use sdb_base::{AccountId, OutOfMemory, Steps, Text};
-use sdb_domain::{Accounts, Domain, Metadata, item_weight};
+use sdb_domain::{Accounts, Domain, item_weight};
 use sdb_pairs::{Change, Changes, Op, Ops, Pair};
 use std::alloc::Global;
 use std::fmt::Write;
@@ -208,29 +208,6 @@ fn each_way_to_an_item_finds_it(rt: HostRuntime) -> Result<(), Fail> {
     Ok(())
 }
 
-// A name stays counted while one of its values is left.
-#[test]
-fn names_are_counted_by_items(rt: HostRuntime) -> Result<(), Fail> {
-    let alloc = rt.alloc();
-    let mut accounts = Accounts::new(alloc);
-    let pairs = ["put books i a=1 a=2 bb=1", "put books j a=1 a=2 bb=1"];
-    apply(alloc, &mut accounts, FIRST, &pairs)?;
-    for (line, names) in [
-        ("take books i a=1", (2, 3)),
-        ("take books i a", (2, 3)),
-        ("take books j a=2", (2, 3)),
-        ("take books j a", (1, 2)),
-    ] {
-        apply(alloc, &mut accounts, FIRST, &[line])?;
-        let books = accounts
-            .domain(FIRST, &text(alloc, "books")?)
-            .ok_or("no domain")?;
-        let numbers = books.metadata();
-        assert_eq!(rt; (numbers.names, numbers.name_bytes), names, "{line}");
-    }
-    Ok(())
-}
-
 #[test]
 fn weights_and_printed_forms(rt: HostRuntime) -> Result<(), Fail> {
     let alloc = rt.alloc();
@@ -246,40 +223,5 @@ fn weights_and_printed_forms(rt: HostRuntime) -> Result<(), Fail> {
     assert_eq!(rt; item_weight(&name, item.pairs()), Some(66 + 73 + 72));
     let printed = format!(in alloc; "{books:?} {accounts:?}")?;
     assert_eq!(rt; printed.as_str(), "Domain { .. } Accounts { .. }");
-    Ok(())
-}
-
-#[test]
-fn counts_are_those_of_a_plain_count(rt: HostRuntime) -> Result<(), Fail> {
-    let alloc = rt.alloc();
-    let mut accounts = Accounts::new(alloc);
-    for n in 0..1000u32 {
-        let line = format!(in alloc; "put books item{n:04} kind=x name{}={n}", n % 4)?;
-        apply(alloc, &mut accounts, FIRST, &[line.as_str()])?;
-    }
-    for n in (0..1000u32).filter(|n| n % 2 == 0) {
-        let line = format!(in alloc; "clear books item{n:04}")?;
-        apply(alloc, &mut accounts, FIRST, &[line.as_str()])?;
-    }
-    let books = accounts
-        .domain(FIRST, &text(alloc, "books")?)
-        .ok_or("no domain")?;
-    // Each odd item is left: its pairs kind and name1 or name3, whose value has 1, 2 or 3 digits.
-    let digits: u64 = 5 + 2 * 45 + 3 * 450;
-    assert_eq!(rt;
-        books.metadata(),
-        Metadata {
-            items: 500,
-            item_bytes: 500 * 8,
-            names: 3,
-            name_bytes: 4 + 5 + 5,
-            pairs: 1000,
-            value_bytes: 500 + digits,
-        }
-    );
-    let weight: u64 = 500 * (8 + 64) + 500 * (4 + 1 + 64) + 500 * (5 + 64) + digits;
-    let numbers = (books.item_count(), books.pair_count(), books.weight());
-    assert_eq!(rt; numbers, (500, 1000, weight));
-    assert_eq!(rt; accounts.weight(FIRST), weight);
     Ok(())
 }

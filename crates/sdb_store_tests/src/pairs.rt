@@ -62,55 +62,6 @@ fn operations_apply_in_order(rt: HostRuntime) -> Result<(), Fail> {
 }
 
 #[test]
-fn names_with_a_common_front_are_apart(rt: HostRuntime) -> Result<(), Fail> {
-    let alloc = rt.alloc();
-    let item = item_of(
-        alloc,
-        &[("ab", "1"), ("a", "2"), ("a", ""), ("b", "3"), ("abc", "")],
-    )?;
-    for (name, wanted) in [
-        ("a", [("a", ""), ("a", "2")].as_slice()),
-        ("ab", [("ab", "1")].as_slice()),
-        ("abc", [("abc", "")].as_slice()),
-        ("b", [("b", "3")].as_slice()),
-        ("ac", [].as_slice()),
-        ("c", [].as_slice()),
-    ] {
-        assert!(rt;
-            is_shown(item.values(&text(alloc, name)?), wanted),
-            "the values of {name}"
-        );
-    }
-
-    let mut ops = Ops::new(alloc);
-    ops.push(Op::DropName(text(alloc, "a")?))?;
-    ops.push(Op::DropPair(pair(alloc, "ab", "2")?))?;
-    ops.push(Op::DropPair(pair(alloc, "b", "3")?))?;
-    let new = merge(alloc, &item, &ops)?;
-    assert!(rt; is_shown(new.pairs(), &[("ab", "1"), ("abc", "")]));
-    Ok(())
-}
-
-#[test]
-fn one_name_has_256_values(rt: HostRuntime) -> Result<(), Fail> {
-    let alloc = rt.alloc();
-    let mut ops = Ops::new(alloc);
-    for n in 0..256u32 {
-        let value = format!(in alloc; "{n:03}")?;
-        ops.push(Op::AddPair(pair(alloc, "k", value.as_str())?))?;
-    }
-    let full = merge(alloc, &Item::new(alloc), &ops)?;
-    assert_eq!(rt; full.values(&text(alloc, "k")?).len(), 256);
-    let again = merge(alloc, &full, &ops)?;
-    assert_eq!(rt; again.pairs().len(), 256);
-
-    let mut all = Ops::new(alloc);
-    all.push(Op::DropAll)?;
-    assert_eq!(rt; merge(alloc, &full, &all)?.pairs().len(), 0);
-    Ok(())
-}
-
-#[test]
 fn an_item_is_shown_with_its_name(rt: HostRuntime) -> Result<(), Fail> {
     let alloc = rt.alloc();
     let item = item_of(alloc, &[("k", "v")])?;
