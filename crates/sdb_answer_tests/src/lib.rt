@@ -10,8 +10,6 @@ mod listing;
 #[cfg(test)]
 mod reply;
 #[cfg(test)]
-mod respond;
-#[cfg(test)]
 mod token;
 #[cfg(test)]
 mod write;

@@ -4,8 +4,6 @@
 #[cfg(test)]
 mod action;
 #[cfg(test)]
-mod arrivals;
-#[cfg(test)]
 mod base;
 #[cfg(test)]
 mod forms;
@@ -21,5 +19,3 @@ mod sign;
 mod streams;
 #[cfg(test)]
 mod tables;
-#[cfg(test)]
-mod words;

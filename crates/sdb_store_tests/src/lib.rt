@@ -1,8 +1,6 @@
-//! Tests of the store, from pairs to the core over it, by what the libraries show their callers.
+//! Tests of the store, from pairs to openings, by what the libraries show their callers.
 #![tactic(auto)]
 
-#[cfg(test)]
-mod checking;
 #[cfg(test)]
 mod domain;
 #[cfg(test)]
@@ -13,7 +11,5 @@ mod journal;
 mod pairs;
 #[cfg(test)]
 mod record;
-#[cfg(test)]
-mod stepping;
 #[cfg(test)]
 mod store;

@@ -1,5 +1,5 @@
 use Rattle.std.proofs.Common.{◌≡◌, length}
-use Rattle.sdb_store_tests.proofs.stepping.take_all.Given as goal
+use Rattle.sdb_command_tests.proofs.stepping.take_all.Given as goal
 
 abbrev pub invariant-answers : goal.invariant-answers
 invariant-answers g l = l.core.store ≡ l.initial.core.store
